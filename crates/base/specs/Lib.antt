@@ -1,0 +1,5 @@
+pub mod Choice
+pub mod Bytes
+pub mod Xor
+pub mod Laid
+pub mod Determined

@@ -1,0 +1,1 @@
+// No function: definitions and laws that several crates cite stand in specs/.
