@@ -2,4 +2,6 @@ pub mod Choice
 pub mod Bytes
 pub mod Xor
 pub mod Laid
+pub mod Filling
+pub mod Same
 pub mod Determined

@@ -1,0 +1,3 @@
+pub mod Cookie
+pub mod TypeNumber
+pub mod TypeLaws
