@@ -1,5 +1,6 @@
 pub mod Choice
 pub mod Bytes
+pub mod Lists
 pub mod Xor
 pub mod Laid
 pub mod Filling

@@ -29,3 +29,7 @@ fitsAt l p s = leb (p + length s) (length l)
 -- a buffer with s from p on, where all of s fits; else the buffer as it was
 unfoldable pub put : List ℕ → ℕ → List ℕ → List ℕ
 put l p s = pick (fitsAt l p s) (laid l p s) l
+
+-- the bytes m with the 16-bit number n in the length field, places 2 and 3, as far as m has them
+unfoldable pub withLength : List ℕ → ℕ → List ℕ
+withLength m n = laid m 2 (two n)

@@ -1,0 +1,45 @@
+//! Two calls timed in turn, and a row of the table for them.
+use std::time::Instant;
+
+/// How long a batch of calls runs at least, in nanoseconds, and how many batches each side gets. A batch is much shorter than
+/// the time that the system gives a process at once, so that on a busy machine most batches still run undisturbed.
+const BATCH: u128 = 200_000;
+const BATCHES: usize = 301;
+
+fn time(call: &mut dyn FnMut(), times: u64) -> u128 {
+    let start = Instant::now();
+    for _ in 0..times {
+        call();
+    }
+    start.elapsed().as_nanos()
+}
+
+/// How many calls fill a batch.
+fn fill(call: &mut dyn FnMut()) -> u64 {
+    let mut times = 1;
+    while time(call, times) < BATCH {
+        times *= 2;
+    }
+    times
+}
+
+fn median(mut samples: Vec<f64>) -> f64 {
+    samples.sort_by(f64::total_cmp);
+    samples[samples.len() / 2]
+}
+
+pub fn head() {
+    println!("{:<28} {:>7}  {:>11} {:>11}  {:<18} {:>7}", "call", "bytes", "ours", "peer", "(peer)", "ratio");
+}
+
+/// Prints the medians of both sides, in nanoseconds a call, and the peer's time over ours: above 1 is faster than the peer.
+pub fn row(what: &str, bytes: usize, peer: &str, mut ours: impl FnMut(), mut theirs: impl FnMut()) {
+    let (n, m) = (fill(&mut ours), fill(&mut theirs));
+    let (mut a, mut b) = (Vec::new(), Vec::new());
+    for _ in 0..BATCHES {
+        a.push(time(&mut ours, n) as f64 / n as f64);
+        b.push(time(&mut theirs, m) as f64 / m as f64);
+    }
+    let (a, b) = (median(a), median(b));
+    println!("{what:<28} {bytes:>7}  {a:>8.1} ns {b:>8.1} ns  {:<18} {:>7.2}", format!("({peer})"), b / a);
+}

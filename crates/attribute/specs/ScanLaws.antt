@@ -1,0 +1,81 @@
+-- The loop that judges attributes: what holds at a place, and how a step carries it on. Stated once, over the fault.
+use Prim.Native.Nat.{ℕ, _+_, _-_, _≤_, _<_}
+use mathlib.Core.List.{List, [], _∷_}
+use mathlib.Core.Path.{_≡_, refl, sym, ap, ap₂, _∙_}
+use native.Mathlib.Omega.{arith}
+use borrow.Author.Tests.{eq-eqb, ne-eqb}
+use lib.ListN.{length, take, drop, length-append, length-take, length-drop}
+use Rattle.attribute.specs.Attribute.{padded, Attr, Body, stop, more, bytesOf, parse}
+use Rattle.attribute.specs.Walk.{stepAt}
+use Rattle.attribute.specs.WalkLaws.{Ahead, ahead, seen, cut-short}
+use Rattle.attribute.specs.BodyLaws.{body-seen}
+use Rattle.attribute.specs.Scan.{scan, scanned}
+use Rattle.attribute.specs.declared.Walk.{Walk}
+use Rattle.attribute.specs.declared.Walk.the-variants.{Attribute, End, Cut}
+use Rattle.attribute.specs.declared.Scan.{Scan}
+use Rattle.attribute.specs.declared.Scan.the-variants.{Passed, Fault}
+
+-- the attribute that a step finds
+abbrev pub found : List ℕ → ℕ → ℕ → ℕ → ℕ → Attr
+found d k v n x = record { kind = k; value = take n (drop v d); pad = take (x - v - n) (drop (v + n) d) }
+
+pub record Scanning (f : ℕ → Attr → ℕ) (d : List ℕ) (at n : ℕ) : Type 0 where
+  pub low : 20 ≤ at
+  pub inside : at ≤ length d
+  pub few : n ≤ at
+  pub same : scan f n at (parse 0 (drop at d)) ≡ scanned f d
+
+pub start : (f : ℕ → Attr → ℕ) (d : List ℕ) → 20 ≤ length d → Scanning f d 20 0
+unfolding scanned
+start f d h = record { low = omega arith; inside = h; few = omega arith; same = refl }
+
+-- a found attribute has as many bytes as the walk goes on
+pub long : (k : ℕ) {d : List ℕ} {p q v n x : ℕ} → Ahead d p q v n x → p + length (bytesOf (found d k v n x)) ≡ x
+long k {d} {p} {q} {v} {n} {x} a =
+    let i : length (take n (drop v d)) ≡ n = simp (length-take, length-drop) (omega (arith, a)) in
+    let j : length (take (x - v - n) (drop (v + n) d)) ≡ x - v - n = simp (length-take, length-drop) (omega (arith, a)) in
+    simp length-append (omega (arith, i, j, a))
+
+module _ {f : ℕ → Attr → ℕ} {d : List ℕ} {at n q k v s x : ℕ} {w : Walk} (g : Scanning f d at n) (i : w ≡ Attribute q k v s x) (e : w ≡ stepAt d at) where
+  pub inside : Ahead d at q v s x
+  inside = ahead (seen (sym i ∙ e))
+
+  pub within : v + s ≤ length d
+  within = omega (arith, inside)
+
+  pub less : length d - x < length d - at
+  less = omega (arith, inside)
+
+  here : scan f n at (parse 0 (drop at d)) ≡ scan f n at (more (found d k v s x) (parse 0 (drop x d)))
+  here = ap (scan f n at) (body-seen d at (sym i ∙ e))
+
+  pub turn : f at (found d k v s x) ≡ 0 → Scanning f d x (n + 1)
+  unfolding scan
+  turn z = record {
+    low = omega (arith, g .low, inside);
+    inside = inside .within;
+    few = omega (arith, g .few, inside);
+    same =
+        ap (λ (y : ℕ). scan f (n + 1) y (parse 0 (drop x d))) (sym (long k inside))
+        ∙ sym (here ∙ simp (eq-eqb (f at (found d k v s x)) 0 z)) ∙ g .same;
+  }
+
+  pub faulty : (f at (found d k v s x) ≡ 0 → ⊥) → Fault (f at (found d k v s x)) at ≡ scanned f d
+  unfolding scan
+  faulty z = sym (here ∙ simp (ne-eqb (f at (found d k v s x)) 0 z)) ∙ g .same
+
+pub passed : {f : ℕ → Attr → ℕ} {d : List ℕ} {at n q : ℕ} {w : Walk} → Scanning f d at n → w ≡ End q → w ≡ stepAt d at → Passed n ≡ scanned f d
+unfolding scan
+passed {f} {d} {at} {n} g i e = sym (ap (scan f n at) (body-seen d at (sym i ∙ e))) ∙ g .same
+
+cut-scan : (f : ℕ → Attr → ℕ) (n p : ℕ) (r : List ℕ) → 0 < length r → scan f n p (stop r) ≡ Fault 10 p
+unfolding scan
+cut-scan f n p [] h = absurd (omega arith)
+cut-scan f n p (b ∷ r) h = refl
+
+pub cut : {f : ℕ → Attr → ℕ} {d : List ℕ} {at n q : ℕ} {w : Walk} → Scanning f d at n → w ≡ Cut q → w ≡ stepAt d at → Fault 10 q ≡ scanned f d
+cut {f} {d} {at} {n} {q} g i e =
+    let s : (q ≡ at) × (at < length d) = cut-short (seen (sym i ∙ e)) (g .inside) in
+    let b : scan f n at (parse 0 (drop at d)) ≡ scan f n at (stop (drop q d)) = ap (scan f n at) (body-seen d at (sym i ∙ e)) in
+    let c : scan f n at (stop (drop q d)) ≡ Fault 10 at = cut-scan f n at (drop q d) (simp length-drop (omega arith)) in
+    ap (λ (y : ℕ). Fault 10 y) (s .0) ∙ sym (b ∙ c) ∙ g .same

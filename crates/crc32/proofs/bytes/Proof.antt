@@ -1,0 +1,55 @@
+-- A byte a turn.
+use Prim.Native.Nat.{_-_}
+use native.Mathlib.Omega.{arith}
+use lib.ListN.{length}
+use Rattle.crc32.proofs.Walk.{Walked, walked-start, byte-turn, walked-done}
+use borrow.Author.Needs.{needs}
+use Rattle.crc32.proofs.bytes.Statement.{statement}
+use Rattle.crc32.proofs.bytes.Tie as tie
+
+abbrev Inv-loop : tie.InvT-loop
+Inv-loop t c s r₀ i₀ r i = Walked c s r i
+
+abbrev μ-loop : tie.MeasureT-loop
+μ-loop t c s r₀ i₀ r i = length s - i
+
+loop-holds : tie.Need-loop-holds Inv-loop μ-loop
+loop-holds c = search (walked-start)
+
+shared-slice-read-b : tie.Need-shared-slice-read-b Inv-loop μ-loop
+shared-slice-read-b c = search needs
+
+cast-b : tie.Need-cast-b Inv-loop μ-loop
+cast-b c = omega (arith, c .shared-slice-known3 .given (c .before .before .loop .i))
+
+look-requires : tie.Need-look-requires Inv-loop μ-loop
+look-requires c κs = search needs
+
+add-i : tie.Need-add-i Inv-loop μ-loop
+add-i c = search needs
+
+loop-less : tie.Need-loop-less Inv-loop μ-loop
+loop-less c = search needs
+
+loop-again : tie.Need-loop-again Inv-loop μ-loop
+loop-again c =
+    byte-turn (c .before .before .before .loop .inv) (search needs)
+    (omega (arith, c .before .shared-slice-known3 .given (c .before .before .before .loop .i))) (c .look .ensures)
+
+returns : tie.Need-returns Inv-loop μ-loop
+returns c = search (walked-done)
+
+pub bytes-spec : {M : Type 1} → statement M
+bytes-spec =
+    tie.close
+    (tie.spec
+    Inv-loop
+    μ-loop
+    loop-holds
+    shared-slice-read-b
+    cast-b
+    look-requires
+    add-i
+    loop-less
+    loop-again
+    returns)

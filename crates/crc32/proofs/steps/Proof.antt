@@ -1,0 +1,34 @@
+-- Four bytes of steps, a byte a turn from the lowest.
+use Rattle.crc32.proofs.Walk.{Stepped, stepped-start, step-turn, stepped-done}
+use borrow.Author.Needs.{needs}
+use Rattle.crc32.proofs.steps.Statement.{statement}
+use Rattle.crc32.proofs.steps.Tie as tie
+
+abbrev Inv-loop : tie.InvT-loop
+Inv-loop t x a₀ y₀ k₀ a y k = Stepped x a y k
+
+abbrev μ-loop : tie.MeasureT-loop
+μ-loop t x a₀ y₀ k₀ a y k = k
+
+loop-holds : tie.Need-loop-holds Inv-loop μ-loop
+loop-holds c = search (stepped-start)
+
+sub-k : tie.Need-sub-k Inv-loop μ-loop
+sub-k c = search needs
+
+look-requires : tie.Need-look-requires Inv-loop μ-loop
+look-requires c κs = search needs
+
+loop-less : tie.Need-loop-less Inv-loop μ-loop
+loop-less c = search needs
+
+loop-again : tie.Need-loop-again Inv-loop μ-loop
+loop-again c = search (step-turn)
+
+returns : tie.Need-returns Inv-loop μ-loop
+returns c = search (stepped-done)
+
+pub steps-spec : {M : Type 1} → statement M
+steps-spec =
+    tie.close
+    (tie.spec Inv-loop μ-loop loop-holds sub-k look-requires loop-less loop-again returns)

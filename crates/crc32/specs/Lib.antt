@@ -1,0 +1,7 @@
+pub mod Crc
+pub mod Octets
+pub mod CrcLaws
+pub mod ProductLaws
+pub mod BurstLaws
+pub mod Rows
+pub mod Waits

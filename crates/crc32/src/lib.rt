@@ -1,0 +1,191 @@
+// CRC-32/ISO-HDLC: the register carried over bytes, so that a sum can be taken in parts, and the whole sum.
+ghost use mathlib.Core.Path.{_≡_};
+ghost use Prim.Native.Nat.{suc, _+_, _*_, _≤_, _<_, _%_};
+ghost use lib.Bits.{bitXor};
+ghost use lib.ListN.{length};
+ghost use Rattle.crc32.specs.Crc.{bytesFrom, finished, crc32Of};
+ghost use Rattle.crc32.specs.Octets.{octets, word};
+ghost use Rattle.crc32.specs.Rows.{Rows};
+ghost use Rattle.crc32.specs.Waits.{register, folded, Fits};
+
+mod tables;
+
+// Where a sum starts. A sum of several parts is `finish(update(update(START, one), other))`.
+pub const START: u32 = 0xFFFF_FFFF;
+
+// The register `c`, carried over the bytes of `s`.
+pub fn update(c: u32, s: &[u8]) -> u32
+    ensures { λ r. ⌜ r ≡ bytesFrom c (now (s .entry)) ⌝ }
+{
+    // A constant array is written to the stack at each use, so a short slice gets a small table.
+    if s.len() < 8 {
+        let t = tables::TWO_ROWS;
+        bytes(&t, c, s)
+    } else {
+        let t = tables::EIGHT_ROWS;
+        words(&t, c, s)
+    }
+}
+
+// The sum that the register has come to.
+pub fn finish(c: u32) -> u32
+    ensures { λ r. ⌜ r ≡ finished c ⌝ }
+{
+    c ^ 0xFFFF_FFFF
+}
+
+// The sum of `s`.
+pub fn crc32(s: &[u8]) -> u32
+    ensures { λ r. ⌜ r ≡ crc32Of (now (s .entry)) ⌝ }
+{
+    finish(update(START, s))
+}
+
+// ---- by half bytes
+
+// What the low byte of `x` becomes by its own steps and those of the `k` bytes behind it.
+fn look(t: &[u32], k: usize, x: u32) -> u32
+    requires { ⌜ Rows (now t) × (k * 32 + 32 ≤ length (now t)) × (k < 4) ⌝ }
+    ensures { λ r. ⌜ r ≡ octets (suc k) (x % 256) ⌝ }
+{
+    let high = k * 32 + ((x / 16 % 16) as usize);
+    let low = k * 32 + 16 + ((x % 16) as usize);
+    t[low] ^ t[high]
+}
+
+// A byte a turn.
+fn bytes(t: &[u32], c: u32, s: &[u8]) -> u32
+    requires { ⌜ Rows (now t) × (32 ≤ length (now t)) ⌝ }
+    ensures { λ r. ⌜ r ≡ bytesFrom c (now (s .entry)) ⌝ }
+{
+    let mut r = c;
+    let mut i = 0;
+    while i < s.len() {
+        let b = s[i] as u32;
+        r = look(t, 0, r ^ b) ^ (r >> 8);
+        i += 1;
+    }
+    r
+}
+
+// The steps of four bytes. The four look-ups do not wait for each other.
+fn steps(t: &[u32], x: u32) -> u32
+    requires { ⌜ Rows (now t) × (128 ≤ length (now t)) ⌝ }
+    ensures { λ r. ⌜ r ≡ octets 4 x ⌝ }
+{
+    let mut a: u32 = 0;
+    let mut y = x;
+    let mut k: usize = 4;
+    while 0 < k {
+        k -= 1;
+        a = a ^ look(t, k, y);
+        y = y >> 8;
+    }
+    a ^ y
+}
+
+// ---- by words of eight bytes: each is folded into words behind it by shifts alone, and only the last five go through the table
+
+// What waits to be added to the next five words, the next in `a`.
+struct Waiting {
+    a: u64,
+    b: u64,
+    c: u64,
+    d: u64,
+    e: u64,
+}
+
+// Up to eight bytes, the first lowest.
+fn word_of(s: &[u8]) -> u64
+    requires { ⌜ length (now s) ≤ 8 ⌝ }
+    ensures { λ r. ⌜ r ≡ word (now (s .entry)) ⌝ }
+{
+    let mut w: u64 = 0;
+    let mut k = s.len();
+    while 0 < k {
+        k -= 1;
+        w = (s[k] as u64) ^ (w * 256);
+    }
+    w
+}
+
+// The polynomial divides x^300 + x^155 + x^117 + x^89 + 1, so the next word, `w` with what waited for it, may as well be
+// added 145, 183, 211 and 300 bits further on: to the second to the fifth word behind it.
+fn fold(f: Waiting, w: u64) -> Waiting
+    ensures { λ r. ⌜ register r ≡ folded (bitXor (register f) w) ⌝ }
+{
+    let x = f.a ^ w;
+    Waiting {
+        a: f.b,
+        b: f.c ^ ((x << 17) ^ (x << 55)),
+        c: f.d ^ (((x >> 47) ^ (x >> 9)) ^ (x << 19)),
+        d: f.e ^ ((x >> 45) ^ (x << 44)),
+        e: x >> 20,
+    }
+}
+
+// The next word goes through its steps.
+fn settle(t: &[u32], f: Waiting, w: u64) -> Waiting
+    requires { ⌜ Rows (now t) × (128 ≤ length (now t)) ⌝ }
+    ensures { λ r. ⌜ register r ≡ octets 8 (bitXor (register f) w) ⌝ }
+{
+    let x = f.a ^ w;
+    let low = (x % 0x1_0000_0000) as u32;
+    let high = (x / 0x1_0000_0000) as u32;
+    let whole = steps(t, steps(t, low) ^ high);
+    Waiting {
+        a: f.b ^ (whole as u64),
+        b: f.c,
+        c: f.d,
+        d: f.e,
+        e: 0,
+    }
+}
+
+// Folds a word a turn, as long as five are left behind it.
+fn words(t: &[u32], c: u32, s: &[u8]) -> u32
+    requires { ⌜ Rows (now t) × (128 ≤ length (now t)) ⌝ }
+    ensures { λ r. ⌜ r ≡ bytesFrom c (now (s .entry)) ⌝ }
+{
+    let mut f = Waiting {
+        a: c as u64,
+        b: 0,
+        c: 0,
+        d: 0,
+        e: 0,
+    };
+    let mut i = 0;
+    while 48 <= s.len() - i {
+        let e = i + 8;
+        f = fold(f, word_of(&s[i..e]));
+        i = e;
+    }
+    last_words(t, f, &s[i..])
+}
+
+// The words that are left, and what is less than a word.
+fn last_words(t: &[u32], f: Waiting, s: &[u8]) -> u32
+    requires { ⌜ Rows (now t) × (128 ≤ length (now t)) × Fits (register f) (length (now s)) ⌝ }
+    ensures { λ r. ⌜ r ≡ bytesFrom (register f) (now (s .entry)) ⌝ }
+{
+    let mut g = f;
+    let mut i = 0;
+    while 8 <= s.len() - i {
+        let e = i + 8;
+        g = settle(t, g, word_of(&s[i..e]));
+        i = e;
+    }
+    tail(t, g.a as u32, &s[i..])
+}
+
+// Less than a word: four bytes at once, where there are so many.
+fn tail(t: &[u32], c: u32, s: &[u8]) -> u32
+    requires { ⌜ Rows (now t) × (128 ≤ length (now t)) ⌝ }
+    ensures { λ r. ⌜ r ≡ bytesFrom c (now (s .entry)) ⌝ }
+{
+    if s.len() < 4 {
+        return bytes(t, c, s);
+    }
+    let w = word_of(&s[0..4]) as u32;
+    bytes(t, steps(t, c ^ w), &s[4..])
+}

@@ -1,0 +1,54 @@
+-- The sum in three parts, and the places where there is none.
+use Prim.Native.Nat.{ℕ, _+_, _-_, _/_, _%_, _≤_, _<_}
+use mathlib.Core.List.{List, [], _∷_, _++_, append-assoc}
+use mathlib.Core.Path.{_≡_, refl, sym, ap, ap₂, _∙_}
+use native.Mathlib.Omega.{arith}
+use borrow.Author.Tests.{lt-ltb, le-ltb}
+use lib.ListN.{length, take, drop, length-take}
+use lib.Seq.{take-take}
+use lib.Bits.{bitXor}
+use Rattle.base.specs.Laid.{laid-is}
+use Rattle.base.specs.Lists.{drop-take}
+use Rattle.numbers.specs.Numbers.{two, withLength}
+use Rattle.crc32.specs.Crc.{bytesFrom, finished, crc32Of}
+use Rattle.crc32.specs.CrcLaws.{bytesFrom-append}
+use Rattle.fingerprint.specs.Fingerprint.{fingerprintAt, printed}
+
+-- the front with another length, part by part
+parts : (d : List ℕ) (p n : ℕ) → 20 ≤ p → p ≤ length d → withLength (take p d) n ≡ take 2 d ++ two n ++ take (p - 4) (drop 4 d)
+unfolding withLength
+parts d p n h l =
+    laid-is (take p d) 2 (two n) (simp length-take (omega arith))
+    ∙ ap₂ {C = List ℕ} (λ u v. u ++ two n ++ v) (take-take 2 p d (omega arith)) (drop-take 4 p d)
+
+pub summed : (d : List ℕ) (p : ℕ) {a b c r : ℕ} → 20 ≤ p → p ≤ length d → a ≡ bytesFrom 0xFFFF_FFFF (take 2 d)
+    → b ≡ bytesFrom a (two (p - 20 + 8)) → c ≡ bytesFrom b (take (p - 4) (drop 4 d)) → r ≡ finished c → bitXor r 0x5354554E ≡ fingerprintAt d p
+unfolding fingerprintAt crc32Of
+summed d p {a} {b} {c} {r} h l e f g i =
+    let n : ℕ = p - 20 + 8 in
+    let s : List ℕ = take (p - 4) (drop 4 d) in
+    let q : bytesFrom 0xFFFF_FFFF (take 2 d ++ two n ++ s) ≡ c =
+    bytesFrom-append 0xFFFF_FFFF (take 2 d ++ two n) s
+    ∙ ap (λ (x : ℕ). bytesFrom x s) (bytesFrom-append 0xFFFF_FFFF (take 2 d) (two n) ∙ ap (λ (x : ℕ). bytesFrom x (two n)) (sym e) ∙ sym f)
+    ∙ sym g
+    in
+    ap (λ (x : ℕ). bitXor x 0x5354554E) (i ∙ ap finished (sym q ∙ ap (bytesFrom 0xFFFF_FFFF) (sym (parts d p n h l))))
+
+module _ (d : List ℕ) (p : ℕ) where
+  pub in-header : p < 20 → 0 ≡ printed d p
+  unfolding printed
+  in-header h = simp (lt-ltb p 20 h)
+
+  module _ (h : 20 ≤ p) where
+    pub behind : length d < p → 0 ≡ printed d p
+    unfolding printed
+    behind l = simp (le-ltb p 20 h, lt-ltb (length d) p l)
+
+    module _ (l : p ≤ length d) where
+      pub too-far : 65535 < p - 20 + 8 → 0 ≡ printed d p
+      unfolding printed
+      too-far k = simp (le-ltb p 20 h, le-ltb (length d) p l, lt-ltb 65535 (p - 20 + 8) k)
+
+      pub there : {r : ℕ} → p - 20 + 8 ≤ 65535 → r ≡ fingerprintAt d p → r ≡ printed d p
+      unfolding printed
+      there k e = simp (le-ltb p 20 h, le-ltb (length d) p l, le-ltb 65535 (p - 20 + 8) k) e

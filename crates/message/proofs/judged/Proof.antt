@@ -1,0 +1,14 @@
+use Rattle.message.proofs.Answers.{first, second}
+use borrow.Author.Needs.{needs}
+use Rattle.message.proofs.judged.Statement.{statement}
+use Rattle.message.proofs.judged.Tie as tie
+
+returns : tie.Need-returns
+returns c = search (first, second)
+
+returns-2 : tie.Need-returns-2
+returns-2 c = search (first, second)
+
+pub judged-spec : {M : Type 1} → statement M
+judged-spec =
+    tie.close (tie.spec (λ c κs. search needs) (λ c. search needs) (λ c. search needs) (λ c κs. search needs) returns returns-2)

@@ -1,0 +1,39 @@
+use native.Mathlib.Omega.{arith}
+use Rattle.message.proofs.Faults.{other, far, sized, right, wrong}
+use borrow.Author.Needs.{needs}
+use Rattle.message.proofs.print_fault.Statement.{statement}
+use Rattle.message.proofs.print_fault.Tie as tie
+
+returns : tie.Need-returns
+returns c = search (other, far, sized)
+
+returns-2 : tie.Need-returns-2
+returns-2 c = search (other, far, sized)
+
+returns-3 : tie.Need-returns-3
+returns-3 c = search (other, far, sized)
+
+returns-4 : tie.Need-returns-4
+returns-4 c =
+    let bs = c .before .before .before .before .before .before .shared-slice-known .given in
+    search (right (c .before .before .before .before .before .before .before .args .d .now) (λ i. omega (arith, bs i)))
+
+returns-5 : tie.Need-returns-5
+returns-5 c =
+    let bs = c .before .before .before .before .before .before .shared-slice-known .given in
+    search (wrong (c .before .before .before .before .before .before .before .args .d .now) (λ i. omega (arith, bs i)))
+
+pub print-fault-spec : {M : Type 1} → statement M
+print-fault-spec =
+    tie.close
+    (tie.spec
+    returns
+    (λ c. search needs)
+    (λ c. search needs)
+    returns-2
+    returns-3
+    (λ c. search needs)
+    (λ c κs. search needs)
+    (λ c κs. search needs)
+    returns-4
+    returns-5)

@@ -1,0 +1,30 @@
+use Rattle.message.proofs.Answers.{read-long, read-refused, read-whole, read-broken}
+use borrow.Author.Needs.{needs}
+use Rattle.message.proofs.read.Statement.{statement}
+use Rattle.message.proofs.read.Tie as tie
+
+judged-requires : tie.Need-judged-requires
+judged-requires c κs = search (read-long)
+
+returns : tie.Need-returns
+returns c = search (read-refused, read-whole, read-broken)
+
+returns-2 : tie.Need-returns-2
+returns-2 c = search (read-refused, read-whole, read-broken)
+
+returns-3 : tie.Need-returns-3
+returns-3 c = search (read-refused, read-whole, read-broken)
+
+pub read-spec : {M : Type 1} → statement M
+read-spec =
+    tie.close
+    (tie.spec
+    (λ c κs. search needs)
+    (λ c. search needs)
+    (λ c. search needs)
+    judged-requires
+    (λ c. search needs)
+    (λ c. search needs)
+    returns
+    returns-2
+    returns-3)

@@ -1,0 +1,66 @@
+-- The reading of a datagram: number, class, method, ID, count, place, in the order of the checks (docs/SCOPE.md, "Reading a datagram").
+use Prim.Native.Nat.{ℕ, _+_, _-_}
+use mathlib.Core.List.{List}
+use lib.ListN.{length, replicate}
+use lib.Dec.{ltb, eqb}
+use Rattle.base.specs.Choice.{pick}
+use Rattle.base.specs.Same.{same}
+use Rattle.numbers.specs.Numbers.{be16, four}
+use Rattle.wire.specs.TypeNumber.{classOf, methodOf, classNumber, classNumbered}
+use Rattle.wire.specs.declared.method.Method.{Method}
+use Rattle.wire.specs.declared.types.MessageClass.{MessageClass}
+use Rattle.header.specs.Header.{headerFault, idOf}
+use Rattle.attribute.specs.Attribute.{Attr}
+use Rattle.attribute.specs.Scan.{scanned}
+use Rattle.attribute.specs.declared.Scan.{Scan}
+use Rattle.attribute.specs.declared.Scan.the-variants.{Passed, Fault}
+use Rattle.rfc5389.specs.Fault.{fault}
+use Rattle.rfc5389.specs.declared.Row.{Row}
+use Rattle.fingerprint.specs.Fingerprint.{fingerprintAt}
+use Rattle.message.specs.declared.Answer.{Answer}
+use Rattle.message.specs.declared.Answer.the-variants.{Whole, Broken, Refused}
+use Rattle.message.specs.declared.Reading.{Reading}
+
+-- 11 to 14, by the attribute's type and value
+unfoldable pub valueFaults : List Row → ℕ → Attr → ℕ
+valueFaults rows p a = fault rows (a .kind) (a .value)
+
+-- a FINGERPRINT at p: 16 where its adjusted length has no place in 16 bits, 15 where its value differs
+unfoldable pub printFault : List ℕ → ℕ → ℕ → List ℕ → ℕ
+printFault d p k v = pick (eqb k 0x8028) (pick (ltb 65535 (p - 20 + 8)) 16 (pick (same v (four (fingerprintAt d p))) 0 15)) 0
+
+unfoldable pub printFaults : List ℕ → ℕ → Attr → ℕ
+printFaults d p a = printFault d p (a .kind) (a .value)
+
+-- the attributes from the first, and only if all pass, each FINGERPRINT in order
+abbrev pub andThen : Scan → Scan → Scan
+andThen (Passed n) s = s
+andThen (Fault r p) s = Fault r p
+
+unfoldable pub outcome : List Row → List ℕ → Scan
+outcome rows d = andThen (scanned (valueFaults rows) d) (scanned (printFaults d) d)
+
+abbrev pub answered : MessageClass → Method → Scan → Answer
+answered c m (Passed n) = Whole c m n
+answered c m (Fault r p) = Broken c m r p
+
+-- the reading under a list of types
+unfoldable pub readingOf : List Row → List ℕ → Reading
+readingOf rows d =
+    pick (eqb (headerFault d) 0)
+    (record {
+      answer = answered (classNumbered (classOf (be16 d 0))) (record { code = methodOf (be16 d 0) }) (outcome rows d);
+      id = record { bytes = idOf d };
+    })
+    (record { answer = Refused (headerFault d); id = record { bytes = replicate 12 0 } })
+
+-- what each answer says, in numbers: the number (0 for whole), class, method, count, place; all else nought
+unfoldable pub numberOf : Answer → ℕ
+numberOf (Whole c m n) = 0
+numberOf (Broken c m r p) = r
+numberOf (Refused n) = n
+
+unfoldable pub valuesOf : Answer → ℕ × ℕ × ℕ × ℕ
+valuesOf (Whole c m n) = (classNumber c, m .code, n, 0)
+valuesOf (Broken c m r p) = (classNumber c, m .code, 0, p)
+valuesOf (Refused n) = (0, 0, 0, 0)

@@ -1,0 +1,216 @@
+// The reader: any bytes in; whole, broken or refused out.
+ghost use mathlib.Core.Path.{_≡_};
+ghost use Prim.Native.Nat.{_+_, _≤_};
+ghost use lib.ListN.{length, take, drop};
+ghost use Rattle.attribute.specs.Scan.{scanned};
+ghost use Rattle.rfc5389.specs.Rows.{rfc5389};
+ghost use Rattle.message.specs.Reading.{printFault, valueFaults, printFaults, outcome, readingOf};
+use attribute::Scan;
+use attribute::Walk;
+use attribute::step;
+use fingerprint::FINGERPRINT;
+use fingerprint::fingerprint_at;
+use header::Head;
+use numbers::u32_at;
+use wire::method::Method;
+use wire::transaction_id::TransactionId;
+use wire::types::MessageClass;
+
+pub enum Answer {
+    Whole {
+        class: MessageClass,
+        method: Method,
+        count: usize,
+    },
+    Broken {
+        class: MessageClass,
+        method: Method,
+        reason: u8,
+        place: usize,
+    },
+    Refused {
+        number: u8,
+    },
+}
+
+// The ID stands beside the answer, since an enum holds no array; it is all zeros where refused.
+pub struct Reading {
+    pub answer: Answer,
+    pub id: TransactionId,
+}
+
+// The attributes' values, from the first: 10 to 14.
+fn values(d: &[u8]) -> Scan
+    requires { ⌜ 20 ≤ length (now d) ⌝ }
+    ensures { λ r. ⌜ r ≡ scanned (valueFaults rfc5389) (now (d .entry)) ⌝ }
+{
+    let mut at = 20;
+    let mut count = 0;
+    loop {
+        let w = step(d, at);
+        let Walk::Attribute {
+            at: _,
+            kind,
+            value,
+            size,
+            next,
+        } = w
+        else {
+            match w {
+                Walk::End { at: _ } => {
+                    return Scan::Passed { count };
+                }
+                Walk::Cut { at: p } => {
+                    return Scan::Fault {
+                        reason: 10,
+                        place: p,
+                    };
+                }
+                Walk::Attribute {
+                    at: _,
+                    kind: _,
+                    value: _,
+                    size: _,
+                    next: _,
+                } => {
+                    return Scan::Passed { count: 0 };
+                }
+            }
+        };
+        let f = rfc5389::fault(kind, &d[value..value + size]);
+        if f != 0 {
+            return Scan::Fault {
+                reason: f,
+                place: at,
+            };
+        }
+        count += 1;
+        at = next;
+    }
+}
+
+// What is wrong with the attribute at p as a FINGERPRINT: 0, 16 or 15; 0 where it is none.
+fn print_fault(d: &[u8], p: usize, kind: u16, size: usize) -> u8
+    requires { ⌜ (20 ≤ p) × (p + 4 + size ≤ length (now d)) ⌝ }
+    ensures { λ r. ⌜ r ≡ printFault (now (d .entry)) p kind (take size (drop (p + 4) (now (d .entry)))) ⌝ }
+{
+    if kind != FINGERPRINT {
+        return 0;
+    }
+    if 65535 < p - 20 + 8 {
+        return 16;
+    }
+    if size != 4 {
+        return 15;
+    }
+    if u32_at(d, p + 4) == fingerprint_at(d, p) {
+        return 0;
+    }
+    15
+}
+
+// Each FINGERPRINT, from the first.
+fn prints(d: &[u8]) -> Scan
+    requires { ⌜ 20 ≤ length (now d) ⌝ }
+    ensures { λ r. ⌜ r ≡ scanned (printFaults (now (d .entry))) (now (d .entry)) ⌝ }
+{
+    let mut at = 20;
+    let mut count = 0;
+    loop {
+        let w = step(d, at);
+        let Walk::Attribute {
+            at: _,
+            kind,
+            value: _,
+            size,
+            next,
+        } = w
+        else {
+            match w {
+                Walk::End { at: _ } => {
+                    return Scan::Passed { count };
+                }
+                Walk::Cut { at: p } => {
+                    return Scan::Fault {
+                        reason: 10,
+                        place: p,
+                    };
+                }
+                Walk::Attribute {
+                    at: _,
+                    kind: _,
+                    value: _,
+                    size: _,
+                    next: _,
+                } => {
+                    return Scan::Passed { count: 0 };
+                }
+            }
+        };
+        let f = print_fault(d, at, kind, size);
+        if f != 0 {
+            return Scan::Fault {
+                reason: f,
+                place: at,
+            };
+        }
+        count += 1;
+        at = next;
+    }
+}
+
+// Values first; FINGERPRINTs only where all of those pass.
+fn judged(d: &[u8]) -> Scan
+    requires { ⌜ 20 ≤ length (now d) ⌝ }
+    ensures { λ r. ⌜ r ≡ outcome rfc5389 (now (d .entry)) ⌝ }
+{
+    let s = values(d);
+    match s {
+        Scan::Fault {
+            reason: _,
+            place: _,
+        } => s,
+        Scan::Passed { count: _ } => prints(d),
+    }
+}
+
+// Reads a datagram.
+pub fn read(d: &[u8]) -> Reading
+    ensures { λ r. ⌜ r ≡ readingOf rfc5389 (now (d .entry)) ⌝ }
+{
+    let h = header::header_of(d);
+    let head = h.head;
+    let id = h.id;
+    match head {
+        Head::Refused { number } => Reading {
+            answer: Answer::Refused { number },
+            id,
+        },
+        Head::Good {
+            class,
+            method,
+            body: _,
+        } => {
+            let s = judged(d);
+            match s {
+                Scan::Passed { count } => Reading {
+                    answer: Answer::Whole {
+                        class,
+                        method,
+                        count,
+                    },
+                    id,
+                },
+                Scan::Fault { reason, place } => Reading {
+                    answer: Answer::Broken {
+                        class,
+                        method,
+                        reason,
+                        place,
+                    },
+                    id,
+                },
+            }
+        }
+    }
+}

@@ -1,0 +1,38 @@
+use Prim.Native.Nat.{_-_}
+use Rattle.rfc5389.proofs.Looking.{Looking, start, turn, found, done}
+use borrow.Author.Needs.{needs}
+use Rattle.rfc5389.proofs.sizes_of.Statement.{statement}
+use Rattle.rfc5389.proofs.sizes_of.Tie as tie
+
+abbrev Inv-loop : tie.InvT-loop
+Inv-loop kind rows i₀ i = Looking rows kind i
+
+abbrev μ-loop : tie.MeasureT-loop
+μ-loop kind rows i₀ i = 11 - i
+
+loop-holds : tie.Need-loop-holds Inv-loop μ-loop
+loop-holds c = start _
+
+returns : tie.Need-returns Inv-loop μ-loop
+returns c = search (found)
+
+loop-again : tie.Need-loop-again Inv-loop μ-loop
+loop-again c = turn _ (c .before .before .before .before .loop .inv) (c .before .before .before .loop-test .taken) (c .if1 .left)
+
+returns-2 : tie.Need-returns-2 Inv-loop μ-loop
+returns-2 c = search (done)
+
+pub sizes-of-spec : {M : Type 1} → statement M
+sizes-of-spec =
+    tie.close
+    (tie.spec
+    Inv-loop
+    μ-loop
+    loop-holds
+    (λ c. search needs)
+    (λ c. search needs)
+    returns
+    (λ c. search needs)
+    (λ c. search needs)
+    loop-again
+    returns-2)

@@ -1,0 +1,57 @@
+-- What is wrong with a value, by its type: 11, 12, 13, 14 in this order, or 0 (docs/SCOPE.md, "The known types", "Addresses", "ERROR-CODE").
+use Prim.Native.Nat.{ℕ, _%_}
+use mathlib.Core.List.{List}
+use lib.ListN.{length, getD, drop}
+use lib.Dec.{ltb, eqb}
+use Rattle.base.specs.Choice.{pick}
+use Rattle.utf8.specs.Utf8.{isUtf8}
+use Rattle.rfc5389.specs.Rows.{look}
+use Rattle.rfc5389.specs.declared.Row.{Row}
+use Rattle.rfc5389.specs.declared.Rule.{Rule}
+use Rattle.rfc5389.specs.declared.Rule.the-variants.{Address, Text, Code, Types, Plain}
+use Rattle.rfc5389.specs.declared.Sizes.{Sizes}
+use Rattle.rfc5389.specs.declared.Sizes.the-variants.{Between, Unknown}
+
+-- what a value owes besides its size
+unfoldable pub ruleOf : ℕ → Rule
+ruleOf k =
+    pick (eqb k 0x0001) Address
+    (pick (eqb k 0x0020) Address
+    (pick (eqb k 0x8023) Address
+    (pick (eqb k 0x0006) Text
+    (pick (eqb k 0x0014) Text
+    (pick (eqb k 0x0015) Text
+    (pick (eqb k 0x8022) Text
+    (pick (eqb k 0x0009) Code
+    (pick (eqb k 0x000A) Types Plain))))))))
+
+-- 8 bytes go with family 1 and 20 with family 2
+unfoldable pub addressFault : List ℕ → ℕ
+addressFault v =
+    pick (eqb (length v) 8) (pick (eqb (getD v 1 0) 1) 0 12)
+    (pick (eqb (length v) 20) (pick (eqb (getD v 1 0) 2) 0 12)
+    11)
+
+-- four bytes; the class is 3 to 6 and the number 0 to 99; then the phrase is UTF-8
+unfoldable pub codeFault : List ℕ → ℕ
+codeFault v =
+    pick (ltb (length v) 4) 11
+    (pick (ltb (getD v 2 0 % 8) 3) 13
+    (pick (ltb 6 (getD v 2 0 % 8)) 13
+    (pick (ltb 99 (getD v 3 0)) 13
+    (pick (isUtf8 (drop 4 v)) 0 14))))
+
+unfoldable pub ruleFault : Rule → List ℕ → ℕ
+ruleFault Address v = addressFault v
+ruleFault Text v = pick (isUtf8 v) 0 14
+ruleFault Code v = codeFault v
+ruleFault Types v = pick (eqb (length v % 2) 0) 0 11
+ruleFault Plain v = 0
+
+-- a value against the sizes of its type, and then its rule; a type that the list doesn't have owes nothing
+unfoldable pub sizeFault : Sizes → Rule → List ℕ → ℕ
+sizeFault Unknown q v = 0
+sizeFault (Between l g) q v = pick (ltb (length v) l) 11 (pick (ltb g (length v)) 11 (ruleFault q v))
+
+unfoldable pub fault : List Row → ℕ → List ℕ → ℕ
+fault rows k v = sizeFault (look rows k) (ruleOf k) v

@@ -1,0 +1,5 @@
+pub mod Tails
+pub mod Rows
+pub mod Walk
+pub mod Count
+pub mod Determined

@@ -1,0 +1,12 @@
+use Rattle.utf8.proofs.Tails.{low-enough, too-low}
+use Rattle.utf8.proofs.within.Statement.{statement}
+use Rattle.utf8.proofs.within.Tie as tie
+
+returns : tie.Need-returns
+returns c = search (low-enough)
+
+returns-2 : tie.Need-returns-2
+returns-2 c = search (too-low)
+
+pub within-spec : {M : Type 1} → statement M
+within-spec = tie.close (tie.spec returns returns-2)
