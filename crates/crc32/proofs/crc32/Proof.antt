@@ -4,15 +4,9 @@ use borrow.Author.Needs.{needs}
 use Rattle.crc32.proofs.crc32.Statement.{statement}
 use Rattle.crc32.proofs.crc32.Tie as tie
 
-update-requires : tie.Need-update-requires
-update-requires c κs = search needs
-
-finish-requires : tie.Need-finish-requires
-finish-requires c κs = search needs
-
 returns : tie.Need-returns
 unfolding crc32Of
 returns c = cc
 
 pub crc32-spec : {M : Type 1} → statement M
-crc32-spec = tie.close (tie.spec update-requires finish-requires returns)
+crc32-spec = tie.close (tie.spec (λ c κs. search needs) (λ c κs. search needs) returns)

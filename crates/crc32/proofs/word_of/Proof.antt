@@ -15,12 +15,6 @@ abbrev μ-loop : tie.MeasureT-loop
 loop-holds : tie.Need-loop-holds Inv-loop μ-loop
 loop-holds c = search (read-start)
 
-sub-k : tie.Need-sub-k Inv-loop μ-loop
-sub-k c = search needs
-
-shared-slice-read-w : tie.Need-shared-slice-read-w Inv-loop μ-loop
-shared-slice-read-w c = search needs
-
 cast-w : tie.Need-cast-w Inv-loop μ-loop
 cast-w c = omega (arith, c .shared-slice-known .given (c .before .before .loop .k - 1))
 
@@ -31,9 +25,6 @@ mul-w c =
           read-small (c .before .before .loop .inv) (c .before .before .before .pre) (λ i. omega (arith, c .shared-slice-known .given i))
           (search needs);
     }
-
-loop-less : tie.Need-loop-less Inv-loop μ-loop
-loop-less c = search needs
 
 loop-again : tie.Need-loop-again Inv-loop μ-loop
 loop-again c = search (read-turn)
@@ -48,10 +39,10 @@ word-of-spec =
     Inv-loop
     μ-loop
     loop-holds
-    sub-k
-    shared-slice-read-w
+    (λ c. search needs)
+    (λ c. search needs)
     cast-w
     mul-w
-    loop-less
+    (λ c. search needs)
     loop-again
     returns)

@@ -17,41 +17,11 @@ abbrev μ-loop : tie.MeasureT-loop
 loop-holds : tie.Need-loop-holds Inv-loop μ-loop
 loop-holds c = search (folding-start)
 
-sub-loop : tie.Need-sub-loop Inv-loop μ-loop
-sub-loop c = search needs
-
-add-e : tie.Need-add-e Inv-loop μ-loop
-add-e c = search needs
-
-sub-word-of : tie.Need-sub-word-of Inv-loop μ-loop
-sub-word-of c = search needs
-
-part-word-of-start : tie.Need-part-word-of-start Inv-loop μ-loop
-part-word-of-start c = search needs
-
-part-word-of-end : tie.Need-part-word-of-end Inv-loop μ-loop
-part-word-of-end c = search needs
-
 word-of-requires : tie.Need-word-of-requires Inv-loop μ-loop
 word-of-requires c κs = search (next-length)
 
-fold-requires : tie.Need-fold-requires Inv-loop μ-loop
-fold-requires c κs = search needs
-
-loop-less : tie.Need-loop-less Inv-loop μ-loop
-loop-less c = search needs
-
 loop-again : tie.Need-loop-again Inv-loop μ-loop
 loop-again c = search (folding-turn)
-
-sub-last-words : tie.Need-sub-last-words Inv-loop μ-loop
-sub-last-words c = search needs
-
-part-last-words-start : tie.Need-part-last-words-start Inv-loop μ-loop
-part-last-words-start c = search needs
-
-part-last-words-end : tie.Need-part-last-words-end Inv-loop μ-loop
-part-last-words-end c = search needs
 
 last-words-requires : tie.Need-last-words-requires Inv-loop μ-loop
 last-words-requires c κs = (search needs, search needs, search (folding-fits))
@@ -66,17 +36,17 @@ words-spec =
     Inv-loop
     μ-loop
     loop-holds
-    sub-loop
-    add-e
-    sub-word-of
-    part-word-of-start
-    part-word-of-end
+    (λ c. search needs)
+    (λ c. search needs)
+    (λ c. search needs)
+    (λ c. search needs)
+    (λ c. search needs)
     word-of-requires
-    fold-requires
-    loop-less
+    (λ c κs. search needs)
+    (λ c. search needs)
     loop-again
-    sub-last-words
-    part-last-words-start
-    part-last-words-end
+    (λ c. search needs)
+    (λ c. search needs)
+    (λ c. search needs)
     last-words-requires
     returns)

@@ -15,20 +15,8 @@ abbrev μ-loop : tie.MeasureT-loop
 loop-holds : tie.Need-loop-holds Inv-loop μ-loop
 loop-holds c = search (start)
 
-shared-slice-read-starting : tie.Need-shared-slice-read-starting Inv-loop μ-loop
-shared-slice-read-starting c = search needs
-
-starting-requires : tie.Need-starting-requires Inv-loop μ-loop
-starting-requires c κs = search needs
-
 add-n : tie.Need-add-n Inv-loop μ-loop
 add-n c = omega (arith, at-most _ _ (c .starting .ensures))
-
-add-i : tie.Need-add-i Inv-loop μ-loop
-add-i c = search needs
-
-loop-less : tie.Need-loop-less Inv-loop μ-loop
-loop-less c = search needs
 
 loop-again : tie.Need-loop-again Inv-loop μ-loop
 loop-again c = search (turn)
@@ -43,10 +31,10 @@ code-points-spec =
     Inv-loop
     μ-loop
     loop-holds
-    shared-slice-read-starting
-    starting-requires
+    (λ c. search needs)
+    (λ c κs. search needs)
     add-n
-    add-i
-    loop-less
+    (λ c. search needs)
+    (λ c. search needs)
     loop-again
     returns)

@@ -15,9 +15,6 @@ abbrev μ-loop : tie.MeasureT-loop
 loop-holds : tie.Need-loop-holds Inv-loop μ-loop
 loop-holds c = search (start)
 
-width-at-requires : tie.Need-width-at-requires Inv-loop μ-loop
-width-at-requires c κs = search needs
-
 returns : tie.Need-returns Inv-loop μ-loop
 returns c = search (stop)
 
@@ -40,7 +37,7 @@ is-utf8-spec =
     Inv-loop
     μ-loop
     loop-holds
-    width-at-requires
+    (λ c κs. search needs)
     returns
     add-i
     loop-less

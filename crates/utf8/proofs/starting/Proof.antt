@@ -3,9 +3,6 @@ use borrow.Author.Needs.{needs}
 use Rattle.utf8.proofs.starting.Statement.{statement}
 use Rattle.utf8.proofs.starting.Tie as tie
 
-within-requires : tie.Need-within-requires
-within-requires c κs = search needs
-
 returns : tie.Need-returns
 returns c = search (is-tail)
 
@@ -13,4 +10,4 @@ returns-2 : tie.Need-returns-2
 returns-2 c = search (no-tail)
 
 pub starting-spec : {M : Type 1} → statement M
-starting-spec = tie.close (tie.spec within-requires returns returns-2)
+starting-spec = tie.close (tie.spec (λ c κs. search needs) returns returns-2)

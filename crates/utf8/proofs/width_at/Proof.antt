@@ -5,53 +5,29 @@ use borrow.Author.Needs.{needs}
 use Rattle.utf8.proofs.width_at.Statement.{statement}
 use Rattle.utf8.proofs.width_at.Tie as tie
 
-shared-slice-read-b : tie.Need-shared-slice-read-b
-shared-slice-read-b c = search needs
-
 returns : tie.Need-returns
 returns c = row-width (row 0 (omega arith)) _ _ _ (omega arith) (omega arith) (omega arith) (alone _ _)
 
 returns-2 : tie.Need-returns-2
 returns-2 c = none-between _ _ (omega arith) (omega arith) (omega arith)
 
-two-requires : tie.Need-two-requires
-two-requires c κs = search needs
-
 returns-3 : tie.Need-returns-3
 returns-3 c = row-width (row 1 (omega arith)) _ _ _ (omega arith) (omega arith) (omega arith) (c .two .ensures)
-
-three-requires : tie.Need-three-requires
-three-requires c κs = search needs
 
 returns-4 : tie.Need-returns-4
 returns-4 c = row-width (row 2 (omega arith)) _ _ _ (omega arith) (omega arith) (omega arith) (c .three .ensures)
 
-three-requires-2 : tie.Need-three-requires-2
-three-requires-2 c κs = search needs
-
 returns-5 : tie.Need-returns-5
 returns-5 c = row-width (row 4 (omega arith)) _ _ _ (omega arith) (omega arith) (omega arith) (c .three2 .ensures)
-
-three-requires-3 : tie.Need-three-requires-3
-three-requires-3 c κs = search needs
 
 returns-6 : tie.Need-returns-6
 returns-6 c = two-rows-width (row 3 (omega arith)) (row 5 (omega arith)) _ _ _ (omega arith) (omega arith) (λ h. omega arith) (omega arith) (c .three3 .ensures)
 
-four-requires : tie.Need-four-requires
-four-requires c κs = search needs
-
 returns-7 : tie.Need-returns-7
 returns-7 c = row-width (row 6 (omega arith)) _ _ _ (omega arith) (omega arith) (omega arith) (c .four .ensures)
 
-four-requires-2 : tie.Need-four-requires-2
-four-requires-2 c κs = search needs
-
 returns-8 : tie.Need-returns-8
 returns-8 c = row-width (row 7 (omega arith)) _ _ _ (omega arith) (omega arith) (omega arith) (c .four2 .ensures)
-
-four-requires-3 : tie.Need-four-requires-3
-four-requires-3 c κs = search needs
 
 returns-9 : tie.Need-returns-9
 returns-9 c = row-width (row 8 (omega arith)) _ _ _ (omega arith) (omega arith) (omega arith) (c .four3 .ensures)
@@ -63,21 +39,21 @@ pub width-at-spec : {M : Type 1} → statement M
 width-at-spec =
     tie.close
     (tie.spec
-    shared-slice-read-b
+    (λ c. search needs)
     returns
     returns-2
-    two-requires
+    (λ c κs. search needs)
     returns-3
-    three-requires
+    (λ c κs. search needs)
     returns-4
-    three-requires-2
+    (λ c κs. search needs)
     returns-5
-    three-requires-3
+    (λ c κs. search needs)
     returns-6
-    four-requires
+    (λ c κs. search needs)
     returns-7
-    four-requires-2
+    (λ c κs. search needs)
     returns-8
-    four-requires-3
+    (λ c κs. search needs)
     returns-9
     returns-10)
