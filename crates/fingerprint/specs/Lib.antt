@@ -1,1 +1,2 @@
 pub mod Fingerprint
+pub mod StretchLaws

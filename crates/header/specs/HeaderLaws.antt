@@ -1,10 +1,10 @@
 -- What the answers of the header checks say, in numbers.
-use Prim.Native.Nat.{ℕ, _≤_}
+use Prim.Native.Nat.{ℕ, _+_, _≤_}
 use mathlib.Core.List.{List}
 use mathlib.Core.Bool.{Bool, true, false}
 use mathlib.Core.Path.{_≡_, refl, sym, ap, _∙_}
 use native.Mathlib.Omega.{arith}
-use borrow.Author.Tests.{eqb-true, ne-eqb, ltb-false}
+use borrow.Author.Tests.{eqb-true, eqb-false, ne-eqb, ltb-false}
 use lib.ListN.{length}
 use lib.Dec.{eqb, ltb}
 use Rattle.base.specs.Choice.{pick}
@@ -70,3 +70,16 @@ long d e = go (ltb (length d) 20) refl
     go : (b : Bool) → ltb (length d) 20 ≡ b → 20 ≤ length d
     go true p = let z : _≡_ {A = ℕ} 1 0 = sym (rw p) ∙ e in absurd (omega arith)
     go false p = ltb-false (length d) 20 p
+
+pub sized : (d : List ℕ) → headerFault d ≡ 0 → length d ≡ 20 + be16 d 2
+unfolding headerFault
+sized d e = front (eqb (frontFault d) 0) refl
+  where
+    size : eqb (frontFault d) 0 ≡ true → (b : Bool) → eqb (length d) (20 + be16 d 2) ≡ b → length d ≡ 20 + be16 d 2
+    size p true q = eqb-true (length d) (20 + be16 d 2) q
+    size p false q = let z : _≡_ {A = ℕ} 4 0 = sym (rw (p, q)) ∙ e in absurd (omega arith)
+    front : (b : Bool) → eqb (frontFault d) 0 ≡ b → length d ≡ 20 + be16 d 2
+    front true p = size p (eqb (length d) (20 + be16 d 2)) refl
+    front false p =
+        let z : frontFault d ≡ 0 = sym (rw p) ∙ e in
+        absurd (eqb-false (frontFault d) 0 p z)

@@ -74,3 +74,13 @@ module _ (d : List ℕ) (p : ℕ) (h : p + 4 ≤ length d) where
       let c : getD d (p + 2) 0 ≡ x / 256 % 256 = cc in
       let g : getD d (p + 2 + 1) 0 ≡ x % 256 = cc in
       rw (a, b, c, g) (number-again x)
+
+-- two numbers of the same four bytes are one
+pub four-once : (x y : ℕ) → four x ≡ four y → x ≡ y
+unfolding number
+four-once x y e =
+    let a : x / 16777216 ≡ y / 16777216 = cc in
+    let b : x / 65536 % 256 ≡ y / 65536 % 256 = cc in
+    let c : x / 256 % 256 ≡ y / 256 % 256 = cc in
+    let f : x % 256 ≡ y % 256 = cc in
+    sym (number-again x) ∙ rw (a, b, c, f) (number-again y)
