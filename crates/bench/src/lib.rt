@@ -1,3 +1,4 @@
 // What bench/ times, exported to it by plain names.
+mod digests;
 mod sums;
 mod text;

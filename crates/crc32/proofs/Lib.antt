@@ -2,3 +2,4 @@ pub mod Table
 pub mod Walk
 pub mod Multiple
 pub mod Waits
+mod Determined

@@ -7,7 +7,7 @@ use borrow.Author.Tests.{lt-ltb, le-ltb}
 use lib.ListN.{length, take, drop, length-take}
 use lib.Seq.{take-take}
 use lib.Bits.{bitXor}
-use Rattle.base.specs.Laid.{laid-is}
+use Rattle.base.specs.Laid.{laid, laid-is}
 use Rattle.base.specs.Lists.{drop-take}
 use Rattle.numbers.specs.Numbers.{two, withLength}
 use Rattle.crc32.specs.Crc.{bytesFrom, finished, crc32Of}
@@ -16,7 +16,7 @@ use Rattle.fingerprint.specs.Fingerprint.{fingerprintAt, printed}
 
 -- the front with another length, part by part
 parts : (d : List ℕ) (p n : ℕ) → 20 ≤ p → p ≤ length d → withLength (take p d) n ≡ take 2 d ++ two n ++ take (p - 4) (drop 4 d)
-unfolding withLength
+unfolding withLength laid
 parts d p n h l =
     laid-is (take p d) 2 (two n) (simp length-take (omega arith))
     ∙ ap₂ {C = List ℕ} (λ u v. u ++ two n ++ v) (take-take 2 p d (omega arith)) (drop-take 4 p d)

@@ -9,7 +9,6 @@ use lib.ListN.{length, getD, take, drop, length-take, length-drop, take-append-d
 use lib.Seq.{ext-getD, getD-take, getD-drop}
 use lib.Bits.{bitXor}
 use Rattle.base.specs.Bytes.{Bytes, take-bytes, drop-bytes}
-use Rattle.base.specs.Laid.{laid}
 use Rattle.base.specs.Xor.{xor-cancel}
 use Rattle.numbers.specs.Numbers.{be16, four, withLength}
 use Rattle.numbers.specs.NumbersLaws.{four-once}
@@ -26,7 +25,7 @@ pub record Sealed (d : List ℕ) (p : ℕ) : Type 0 where
 
 -- a length field with its own number in it is unchanged
 pub same-length : (m : List ℕ) → Bytes m → 4 ≤ length m → withLength m (be16 m 2) ≡ m
-unfolding withLength be16 laid
+unfolding withLength be16
 same-length [] h l = absurd (omega arith)
 same-length (a ∷ []) h l = absurd (omega arith)
 same-length (a ∷ b ∷ []) h l = absurd (omega arith)
@@ -56,7 +55,7 @@ joined : (d e : List ℕ) (p : ℕ) → take p d ≡ take p e → drop p d ≡ d
 joined d e p f b = sym (take-append-drop p d) ∙ ap₂ {C = List ℕ} (λ u v. u ++ v) f b ∙ take-append-drop p e
 
 module _ (d e : List ℕ) (p k : ℕ) (h : Bytes d) (i : Bytes e) (s : Sealed d p) (t : Sealed e p)
-  (same : (j : ℕ) → (j < k) ⊎ (k + 4 ≤ j) → getD d j 0 ≡ getD e j 0) where
+    (same : (j : ℕ) → (j < k) ⊎ (k + 4 ≤ j) → getD d j 0 ≡ getD e j 0) where
   fronts-at : (j : ℕ) → j < p → (j < k) ⊎ (k + 4 ≤ j) → getD (take p d) j 0 ≡ getD (take p e) j 0
   fronts-at j l w = getD-take p d j 0 l ∙ same j w ∙ sym (getD-take p e j 0 l)
 
@@ -70,7 +69,7 @@ module _ (d e : List ℕ) (p k : ℕ) (h : Bytes d) (i : Bytes e) (s : Sealed d 
   from-fronts : take p d ≡ take p e → d ≡ e
   from-fronts f =
       let q : fingerprintAt d p ≡ fingerprintAt e p =
-          print-is d p h s ∙ ap (λ (m : List ℕ). bitXor (crc32Of m) 0x5354554E) f ∙ sym (print-is e p i t)
+      print-is d p h s ∙ ap (λ (m : List ℕ). bitXor (crc32Of m) 0x5354554E) f ∙ sym (print-is e p i t)
       in
       joined d e p f (s .print ∙ ap (λ (x : ℕ). 0x80 ∷ 0x28 ∷ 0 ∷ 4 ∷ four x) q ∙ sym (t .print))
 
@@ -80,6 +79,7 @@ module _ (d e : List ℕ) (p k : ℕ) (h : Bytes d) (i : Bytes e) (s : Sealed d 
     where
       sizes : length (take p d) ≡ length (take p e)
       sizes = front-size d (s .long) ∙ sym (front-size e (t .long))
+
       outside : (j : ℕ) → (j < k) ⊎ (k + 4 ≤ j) → getD (take p d) j 0 ≡ getD (take p e) j 0
       outside j w = in-or-out (decLt j p)
         where
@@ -88,12 +88,15 @@ module _ (d e : List ℕ) (p k : ℕ) (h : Bytes d) (i : Bytes e) (s : Sealed d 
           in-or-out (no m) =
               List·getD-eq-default (take p d) 0 {n = j} (omega (arith, front-size d (s .long)))
               ∙ sym (List·getD-eq-default (take p e) 0 {n = j} (omega (arith, front-size e (t .long))))
+
       window : (m : List ℕ) → Bytes m → Bytes (take 4 (drop k (take p m)))
       window m b = take-bytes 4 (drop k (take p m)) (drop-bytes k (take p m) (take-bytes p m b))
+
       ends : drop 4 (drop p d) ≡ drop 4 (drop p e)
       ends =
           ext-getD 0 (drop 4 (drop p d)) (drop 4 (drop p e)) (simp length-drop (ap (λ (n : ℕ). n - p - 4) (s .long ∙ sym (t .long))))
           (λ j m. place d j ∙ same (p + (4 + j)) (inr (omega arith)) ∙ sym (place e j))
+
       sums : crc32Of (take p d) ≡ crc32Of (take p e)
       sums =
           let v : four (fingerprintAt d p) ≡ four (fingerprintAt e p) = sym (ap (drop 4) (s .print)) ∙ ends ∙ ap (drop 4) (t .print) in

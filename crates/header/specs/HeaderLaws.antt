@@ -78,6 +78,7 @@ sized d e = front (eqb (frontFault d) 0) refl
     size : eqb (frontFault d) 0 ≡ true → (b : Bool) → eqb (length d) (20 + be16 d 2) ≡ b → length d ≡ 20 + be16 d 2
     size p true q = eqb-true (length d) (20 + be16 d 2) q
     size p false q = let z : _≡_ {A = ℕ} 4 0 = sym (rw (p, q)) ∙ e in absurd (omega arith)
+
     front : (b : Bool) → eqb (frontFault d) 0 ≡ b → length d ≡ 20 + be16 d 2
     front true p = size p (eqb (length d) (20 + be16 d 2)) refl
     front false p =

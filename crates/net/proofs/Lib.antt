@@ -1,1 +1,2 @@
 mod Xoring
+mod Determined

@@ -2,7 +2,7 @@
 use Prim.Native.Nat.{ℕ, _+_, _*_, _/_, _%_}
 use mathlib.Core.List.{List, [], _∷_, _++_}
 use mathlib.Core.Bool.{Bool}
-use lib.ListN.{length, getD}
+use lib.ListN.{length, getD, set}
 use lib.Dec.{leb}
 use Rattle.base.specs.Choice.{pick}
 use Rattle.base.specs.Laid.{laid}
@@ -32,4 +32,4 @@ put l p s = pick (fitsAt l p s) (laid l p s) l
 
 -- the bytes m with the 16-bit number n in the length field, places 2 and 3, as far as m has them
 unfoldable pub withLength : List ℕ → ℕ → List ℕ
-withLength m n = laid m 2 (two n)
+withLength m n = set (set m 2 (n / 256)) 3 (n % 256)

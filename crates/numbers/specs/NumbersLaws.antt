@@ -4,9 +4,9 @@ use mathlib.Core.List.{List, [], _∷_}
 use mathlib.Core.Path.{_≡_, refl, sym, ap, _∙_}
 use native.Mathlib.Omega.{arith}
 use native.Mathlib.Numerals.{add-one}
-use lib.ListN.{length, getD, take, drop}
+use lib.ListN.{length, getD, take, drop, length-set}
 use lib.Seq.{drop-cons}
-use Rattle.numbers.specs.Numbers.{be16, be32, four}
+use Rattle.numbers.specs.Numbers.{be16, be32, four, withLength}
 
 -- the first byte of what stands at p, and the first four
 peel : (d : List ℕ) (p q : ℕ) → q ≡ p + 1 → p < length d → drop p d ≡ getD d p 0 ∷ drop q d
@@ -84,3 +84,7 @@ four-once x y e =
     let c : x / 256 % 256 ≡ y / 256 % 256 = cc in
     let f : x % 256 ≡ y % 256 = cc in
     sym (number-again x) ∙ rw (a, b, c, f) (number-again y)
+
+pub length-withLength : (m : List ℕ) (n : ℕ) → length (withLength m n) ≡ length m
+unfolding withLength
+length-withLength m n = simp length-set

@@ -29,13 +29,13 @@ use Rattle.message.specs.Reading.{valueFaults, printFault, printFaults, andThen
 -- an attribute that passed, and the rest judged behind it
 module _ (f : ℕ → Attr → ℕ) where
   passed-more : (n p m : ℕ) (a : Attr) (b : Body) → scan f n p (more a b) ≡ Passed m
-    → (f p a ≡ 0) × (scan f (n + 1) (p + length (bytesOf a)) b ≡ Passed m)
+      → (f p a ≡ 0) × (scan f (n + 1) (p + length (bytesOf a)) b ≡ Passed m)
   unfolding scan
   passed-more n p m a b e = go (eqb (f p a) 0) refl e
     where
       go : (q : Bool) → eqb (f p a) 0 ≡ q
-        → pick q (scan f (n + 1) (p + length (bytesOf a)) b) (Fault (f p a) p) ≡ Passed m
-        → (f p a ≡ 0) × (scan f (n + 1) (p + length (bytesOf a)) b ≡ Passed m)
+          → pick q (scan f (n + 1) (p + length (bytesOf a)) b) (Fault (f p a) p) ≡ Passed m
+          → (f p a ≡ 0) × (scan f (n + 1) (p + length (bytesOf a)) b ≡ Passed m)
       go true i e = (eqb-true (f p a) 0 i, e)
       go false i e = let z : _≡_ {A = ℕ} 0 1 = cc in absurd (omega arith)
 
@@ -46,7 +46,7 @@ module _ (f : ℕ → Attr → ℕ) where
 
   -- the last of them, and nothing behind it
   passed-last : (n p m : ℕ) (b : Body) (ys : List Attr) (a : Attr) → attrs b ≡ ys ++ (a ∷ []) → scan f n p b ≡ Passed m
-    → (f (p + length (allBytes ys)) a ≡ 0) × (rest b ≡ [])
+      → (f (p + length (allBytes ys)) a ≡ 0) × (rest b ≡ [])
   passed-last n p m (stop r) [] a e s = absurd (omega (arith, ap length e))
   passed-last n p m (stop r) (y ∷ ys) a e s = absurd (omega (arith, ap length e))
   passed-last n p m (more x (stop r)) [] a e s =
@@ -60,7 +60,7 @@ module _ (f : ℕ → Attr → ℕ) where
       let i : x ≡ y = cc in
       let j : attrs b ≡ ys ++ (a ∷ []) = cc in
       let r : (f (p + length (bytesOf x) + length (allBytes ys)) a ≡ 0) × (rest b ≡ []) =
-          passed-last (n + 1) (p + length (bytesOf x)) m b ys a j (q .1)
+      passed-last (n + 1) (p + length (bytesOf x)) m b ys a j (q .1)
       in
       let l : length (bytesOf y ++ allBytes ys) ≡ length (bytesOf x) + length (allBytes ys) = rw i (length-append (bytesOf y) (allBytes ys)) in
       let k : p + length (bytesOf y ++ allBytes ys) ≡ p + length (bytesOf x) + length (allBytes ys) = omega (arith, l) in
@@ -74,6 +74,7 @@ right-print d p k v e f = far (ltb 65535 (p - 20 + 8)) (simp (eq-eqb k 0x8028 e)
     value : (b : Bool) → same v (four (fingerprintAt d p)) ≡ b → _≡_ {A = ℕ} (pick b 0 15) 0 → v ≡ four (fingerprintAt d p)
     value true q g = same-eq v (four (fingerprintAt d p)) q
     value false q g = absurd (omega arith)
+
     far : (b : Bool) → _≡_ {A = ℕ} (pick b 16 (pick (same v (four (fingerprintAt d p))) 0 15)) 0 → v ≡ four (fingerprintAt d p)
     far true g = absurd (omega arith)
     far false g = value (same v (four (fingerprintAt d p))) refl g
@@ -88,7 +89,7 @@ good-last (y ∷ ys) a g = good-last ys a (g .1)
 
 -- a datagram that isn't refused, whose FINGERPRINTs are right and whose last attribute is one, ends in it
 module _ (d : List ℕ) (h : Bytes d) (g : headerFault d ≡ 0) {m : ℕ} (s : scanned (printFaults d) d ≡ Passed m)
-  (ys : List Attr) (a : Attr) (e : attrs (parse 0 (drop 20 d)) ≡ ys ++ (a ∷ [])) (k : a .kind ≡ 0x8028) where
+    (ys : List Attr) (a : Attr) (e : attrs (parse 0 (drop 20 d)) ≡ ys ++ (a ∷ [])) (k : a .kind ≡ 0x8028) where
   abbrev at : ℕ
   at = 20 + length (allBytes ys)
 
@@ -123,9 +124,9 @@ module _ (d : List ℕ) (h : Bytes d) (g : headerFault d ≡ 0) {m : ℕ} (s : s
   sealed =
       let l : 20 ≤ length d = long d g in
       let n : length d - 20 ≡ length (allBytes ys) + 8 = sym (length-drop 20 d) ∙ sym (ap length body) ∙ length-append (allBytes ys) (bytesOf a) ∙ ap (λ (x : List ℕ). length (allBytes ys) + length x) bytes in
-      record
-      { low = omega arith
-      ; long = omega arith
-      ; field = omega (arith, sized d g)
-      ; print = sym (drop-drop (length (allBytes ys)) 20 d) ∙ ap (drop (length (allBytes ys))) (sym body) ∙ drop-append-seam (allBytes ys) (bytesOf a) ∙ bytes
+      record {
+        low = omega arith;
+        long = omega arith;
+        field = omega (arith, sized d g);
+        print = sym (drop-drop (length (allBytes ys)) 20 d) ∙ ap (drop (length (allBytes ys))) (sym body) ∙ drop-append-seam (allBytes ys) (bytesOf a) ∙ bytes;
       }

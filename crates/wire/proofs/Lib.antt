@@ -1,2 +1,3 @@
 mod Cookies
 mod Classes
+mod Determined

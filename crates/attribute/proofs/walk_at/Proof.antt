@@ -10,7 +10,7 @@ returns-2 : tie.Need-returns-2
 returns-2 c = search (walk-refused, walk-header, walk-step)
 
 returns-3 : tie.Need-returns-3
-returns-3 c = search (walk-refused, walk-header, walk-step)
+returns-3 c = search (walk-step)
 
 pub walk-at-spec : {M : Type 1} → statement M
 walk-at-spec =

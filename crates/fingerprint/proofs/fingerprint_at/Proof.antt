@@ -13,7 +13,7 @@ returns-3 : tie.Need-returns-3
 returns-3 c = search (in-header, behind, too-far, there)
 
 returns-4 : tie.Need-returns-4
-returns-4 c = search (in-header, behind, too-far, there)
+returns-4 c = search (there)
 
 pub fingerprint-at-spec : {M : Type 1} → statement M
 fingerprint-at-spec =

@@ -5,13 +5,13 @@ use Rattle.message.proofs.print_fault.Statement.{statement}
 use Rattle.message.proofs.print_fault.Tie as tie
 
 returns : tie.Need-returns
-returns c = search (other, far, sized)
+returns c = search (other)
 
 returns-2 : tie.Need-returns-2
-returns-2 c = search (other, far, sized)
+returns-2 c = search (far)
 
 returns-3 : tie.Need-returns-3
-returns-3 c = search (other, far, sized)
+returns-3 c = search (sized)
 
 returns-4 : tie.Need-returns-4
 returns-4 c =

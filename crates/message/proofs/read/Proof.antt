@@ -7,13 +7,13 @@ judged-requires : tie.Need-judged-requires
 judged-requires c κs = search (read-long)
 
 returns : tie.Need-returns
-returns c = search (read-refused, read-whole, read-broken)
+returns c = search (read-refused)
 
 returns-2 : tie.Need-returns-2
-returns-2 c = search (read-refused, read-whole, read-broken)
+returns-2 c = search (read-whole)
 
 returns-3 : tie.Need-returns-3
-returns-3 c = search (read-refused, read-whole, read-broken)
+returns-3 c = search (read-broken)
 
 pub read-spec : {M : Type 1} → statement M
 read-spec =

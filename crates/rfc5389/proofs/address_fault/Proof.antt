@@ -4,19 +4,19 @@ use Rattle.rfc5389.proofs.address_fault.Statement.{statement}
 use Rattle.rfc5389.proofs.address_fault.Tie as tie
 
 returns : tie.Need-returns
-returns c = search (address-4, address-4-other, address-16, address-16-other, address-size)
+returns c = search (address-4, address-16)
 
 returns-2 : tie.Need-returns-2
-returns-2 c = search (address-4, address-4-other, address-16, address-16-other, address-size)
+returns-2 c = search (address-4-other, address-16-other)
 
 returns-3 : tie.Need-returns-3
-returns-3 c = search (address-4, address-4-other, address-16, address-16-other, address-size)
+returns-3 c = search (address-4, address-16)
 
 returns-4 : tie.Need-returns-4
-returns-4 c = search (address-4, address-4-other, address-16, address-16-other, address-size)
+returns-4 c = search (address-4-other, address-16-other)
 
 returns-5 : tie.Need-returns-5
-returns-5 c = search (address-4, address-4-other, address-16, address-16-other, address-size)
+returns-5 c = search (address-size)
 
 pub address-fault-spec : {M : Type 1} → statement M
 address-fault-spec =

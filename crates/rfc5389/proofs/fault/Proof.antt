@@ -4,16 +4,16 @@ use Rattle.rfc5389.proofs.fault.Statement.{statement}
 use Rattle.rfc5389.proofs.fault.Tie as tie
 
 returns : tie.Need-returns
-returns c = search (unknown, too-short, too-long, by-rule)
+returns c = search (too-short, too-long, by-rule)
 
 returns-2 : tie.Need-returns-2
-returns-2 c = search (unknown, too-short, too-long, by-rule)
+returns-2 c = search (too-short, too-long, by-rule)
 
 returns-3 : tie.Need-returns-3
-returns-3 c = search (unknown, too-short, too-long, by-rule)
+returns-3 c = search (unknown, by-rule)
 
 returns-4 : tie.Need-returns-4
-returns-4 c = search (unknown, too-short, too-long, by-rule)
+returns-4 c = search (by-rule)
 
 pub fault-spec : {M : Type 1} → statement M
 fault-spec =

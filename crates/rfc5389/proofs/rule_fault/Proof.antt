@@ -4,25 +4,25 @@ use Rattle.rfc5389.proofs.rule_fault.Statement.{statement}
 use Rattle.rfc5389.proofs.rule_fault.Tie as tie
 
 returns : tie.Need-returns
-returns c = search (rule-plain, rule-address, rule-code, rule-even, rule-odd, rule-text, rule-no-text)
+returns c = search (rule-plain, rule-address, rule-code, rule-even, rule-text)
 
 returns-2 : tie.Need-returns-2
-returns-2 c = search (rule-plain, rule-address, rule-code, rule-even, rule-odd, rule-text, rule-no-text)
+returns-2 c = search (rule-plain, rule-address, rule-code, rule-even, rule-text)
 
 returns-3 : tie.Need-returns-3
-returns-3 c = search (rule-plain, rule-address, rule-code, rule-even, rule-odd, rule-text, rule-no-text)
+returns-3 c = search (rule-plain, rule-address, rule-code, rule-even, rule-text)
 
 returns-4 : tie.Need-returns-4
-returns-4 c = search (rule-plain, rule-address, rule-code, rule-even, rule-odd, rule-text, rule-no-text)
+returns-4 c = search (rule-address, rule-code)
 
 returns-5 : tie.Need-returns-5
-returns-5 c = search (rule-plain, rule-address, rule-code, rule-even, rule-odd, rule-text, rule-no-text)
+returns-5 c = search (rule-address, rule-code)
 
 returns-6 : tie.Need-returns-6
-returns-6 c = search (rule-plain, rule-address, rule-code, rule-even, rule-odd, rule-text, rule-no-text)
+returns-6 c = search (rule-address, rule-code, rule-odd)
 
 returns-7 : tie.Need-returns-7
-returns-7 c = search (rule-plain, rule-address, rule-code, rule-even, rule-odd, rule-text, rule-no-text)
+returns-7 c = search (rule-address, rule-code, rule-no-text)
 
 pub rule-fault-spec : {M : Type 1} → statement M
 rule-fault-spec =

@@ -1,0 +1,4 @@
+pub mod Keys
+pub mod Front
+pub mod Comparison
+pub mod Determined

@@ -1,0 +1,9 @@
+use borrow.Author.Needs.{needs}
+use Rattle.hmac.proofs.keyed.Statement.{statement}
+use Rattle.hmac.proofs.keyed.Tie as tie
+
+returns : tie.Need-returns
+returns c = cc
+
+pub keyed-spec : {M : Type 1} → statement M
+keyed-spec = tie.close (tie.spec (λ c κs. search needs) (λ c κs. search needs) returns)

@@ -1,0 +1,106 @@
+// HMAC-SHA-1 (RFC 2104): of a slice, and of a datagram's front with another length; and the comparison of digests.
+ghost use mathlib.Core.Path.{_≡_};
+ghost use mathlib.Core.List.{_++_};
+ghost use Prim.Native.Nat.{_+_};
+ghost use lib.ListN.{length, take};
+ghost use Rattle.sha1.specs.Sha1.{start, compress, finished, sha1, blockOf};
+ghost use Rattle.base.specs.Same.{same};
+ghost use Rattle.numbers.specs.Numbers.{withLength};
+ghost use Rattle.hmac.specs.Hmac as spec;
+use sha1::State;
+
+// The key as one block.
+fn key_block(k: &[u8]) -> [u8; 64]
+    ensures { λ r. ⌜ r ≡ spec.keyBlock (now (k .entry)) ⌝ }
+{
+    if k.len() <= 64 {
+        sha1::block(k)
+    } else {
+        let d = sha1::hash(k);
+        sha1::block(&d)
+    }
+}
+
+// Each byte of k xored with x.
+fn xored(k: [u8; 64], x: u8) -> [u8; 64]
+    ensures { λ r. ⌜ r ≡ spec.xored k x ⌝ }
+{
+    let mut b = k;
+    for i in 0..64 {
+        b[i] = b[i] ^ x;
+    }
+    b
+}
+
+// The hash value after the key's block xored with x.
+fn keyed(k: [u8; 64], x: u8) -> State
+    ensures { λ r. ⌜ r ≡ compress (spec.xored k x) start ⌝ }
+{
+    let b = xored(k, x);
+    sha1::absorb(sha1::START, &b)
+}
+
+// The outer hash, over the inner digest m.
+fn outer(k: [u8; 64], m: [u8; 20]) -> [u8; 20]
+    ensures { λ r. ⌜ r ≡ sha1 (spec.xored k 0x5c ++ m) ⌝ }
+{
+    sha1::finish(keyed(k, 0x5c), 1, &m)
+}
+
+// HMAC-SHA-1 of the message m under the key k.
+pub fn hmac(k: &[u8], m: &[u8]) -> [u8; 20]
+    ensures { λ r. ⌜ r ≡ spec.hmacOf (now (k .entry)) (now (m .entry)) ⌝ }
+{
+    let b = key_block(k);
+    outer(b, sha1::finish(keyed(b, 0x36), 1, m))
+}
+
+// The first block of m, with n in the length field.
+fn relabelled(m: &[u8], n: u16) -> [u8; 64]
+    ensures { λ r. ⌜ r ≡ withLength (blockOf (now (m .entry))) n ⌝ }
+{
+    let mut b = sha1::block(m);
+    b[2] = (n / 256) as u8;
+    b[3] = (n % 256) as u8;
+    b
+}
+
+// The inner hash of m with n in its length field, where h has taken in the key. Only the first block is copied.
+fn inner(h: State, m: &[u8], n: u16) -> [u8; 20]
+    ensures { λ r. ⌜ r ≡ finished h (64 + length (now (m .entry))) (withLength (now (m .entry)) n) ⌝ }
+{
+    let b = relabelled(m, n);
+    let p = m.len();
+    if p < 64 {
+        sha1::finish(h, 1, &b[0..p])
+    } else {
+        sha1::finish(sha1::absorb(h, &b), 2, &m[64..])
+    }
+}
+
+// HMAC-SHA-1 under the key k of the first p bytes of d, or of all where d has fewer, with n in the length field.
+pub fn hmac_front(k: &[u8], d: &[u8], p: usize, n: u16) -> [u8; 20]
+    ensures { λ r. ⌜ r ≡ spec.hmacOf (now (k .entry)) (withLength (take p (now (d .entry))) n) ⌝ }
+{
+    let b = key_block(k);
+    let h = keyed(b, 0x36);
+    if p <= d.len() {
+        outer(b, inner(h, &d[0..p], n))
+    } else {
+        outer(b, inner(h, d, n))
+    }
+}
+
+// Whether b is the digest a. Every byte is looked at, so that the time tells nothing of the place where they differ.
+pub fn same_digest(a: [u8; 20], b: &[u8]) -> bool
+    ensures { λ r. ⌜ r ≡ same a (now (b .entry)) ⌝ }
+{
+    if b.len() != 20 {
+        return false;
+    }
+    let mut differing: u8 = 0;
+    for i in 0..20 {
+        differing = differing | (a[i] ^ b[i]);
+    }
+    differing == 0
+}

@@ -1,0 +1,4 @@
+pub mod Words
+pub mod Twenties
+pub mod Padded
+pub mod Determined

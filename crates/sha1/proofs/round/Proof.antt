@@ -1,0 +1,18 @@
+use borrow.Author.Needs.{needs}
+use Rattle.sha1.proofs.round.Statement.{statement}
+use Rattle.sha1.proofs.round.Tie as tie
+
+returns : tie.Need-returns
+returns c = cc
+
+pub round-spec : {M : Type 1} → statement M
+round-spec =
+    tie.close
+    (tie.spec
+    (λ c κs. search needs)
+    (λ c κs. search needs)
+    (λ c κs. search needs)
+    (λ c κs. search needs)
+    (λ c κs. search needs)
+    (λ c κs. search needs)
+    returns)

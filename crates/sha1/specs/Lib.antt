@@ -1,0 +1,3 @@
+pub mod Sha1
+pub mod Sha1Laws
+pub mod Examples
