@@ -1,12 +1,19 @@
 //! Our calls beside their peers. `run NAME ..` times some of the parts only.
 mod crc32;
 mod measure;
+mod plain;
+mod reader;
 mod sha;
 mod utf8;
 
 fn main() {
     let wanted: Vec<String> = std::env::args().skip(1).collect();
-    let parts: [(&str, fn()); 3] = [("crc32", crc32::run), ("sha", sha::run), ("utf8", utf8::run)];
+    let parts: [(&str, fn()); 4] = [
+        ("crc32", crc32::run),
+        ("sha", sha::run),
+        ("utf8", utf8::run),
+        ("reader", reader::run),
+    ];
     measure::head();
     for (name, part) in parts {
         if wanted.is_empty() || wanted.iter().any(|w| w == name) {

@@ -5,3 +5,5 @@ pub mod BodyLaws
 pub mod RoundTrip
 pub mod Scan
 pub mod ScanLaws
+pub mod PassLaws
+pub mod CoverLaws

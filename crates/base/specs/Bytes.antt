@@ -1,8 +1,12 @@
 -- Lists of bytes: each element is below 256.
 use Prim.Native.Nat.{ℕ, zero, suc, _<_}
+use mathlib.Core.Bool.{Bool, true, false, _&&_}
 use mathlib.Core.List.{List, [], _∷_, _++_}
+use mathlib.Core.Path.{_≡_, refl}
 use native.Mathlib.Omega.{arith}
+use borrow.Author.Tests.{ltb-true}
 use lib.ListN.{getD, take, drop}
+use lib.Dec.{ltb}
 
 abbrev pub Bytes : List ℕ → Type 0
 Bytes [] = Unit {0}
@@ -32,3 +36,16 @@ pub byte-at : (s : List ℕ) (i : ℕ) → Bytes s → getD s i 0 < 256
 byte-at [] i h = omega arith
 byte-at (b ∷ s) zero h = h .0
 byte-at (b ∷ s) (suc i) h = byte-at s i (h .1)
+
+-- the same by a test, for lists that are written out
+abbrev pub isBytes : List ℕ → Bool
+isBytes [] = true
+isBytes (b ∷ s) = ltb b 256 && isBytes s
+
+pub tested : (s : List ℕ) → isBytes s ≡ true → Bytes s
+tested [] e = tt
+tested (b ∷ s) e = go (ltb b 256) refl e (tested s)
+  where
+    go : (q : Bool) → ltb b 256 ≡ q → q && isBytes s ≡ true → (isBytes s ≡ true → Bytes s) → (b < 256) × Bytes s
+    go true i f h = (ltb-true b 256 i, h f)
+    go false i f h = let z : _≡_ {A = ℕ} 0 1 = cc in absurd (omega arith)

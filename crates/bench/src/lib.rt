@@ -1,4 +1,5 @@
 // What bench/ times, exported to it by plain names.
 mod digests;
+mod reading;
 mod sums;
 mod text;

@@ -11,7 +11,7 @@ use lib.Bits.{bitXor, xor-zero-r, xor-comm, xor-lt, xor-shifted, xor-block}
 use Rattle.base.specs.Xor.{xor-assoc, xor-swap}
 use Rattle.crc32.specs.Crc.{bitSteps, bytesFrom}
 use Rattle.crc32.specs.Octets.{octets, word}
-use Rattle.crc32.specs.CrcLaws.{bitSteps-add, bitSteps-over, bitSteps-split, bitSteps-down, wider}
+use Rattle.crc32.specs.CrcLaws.{bitSteps-xor, bitSteps-add, bitSteps-over, bitSteps-split, bitSteps-down, wider}
 use Rattle.crc32.specs.Waits.{over, register, spread, folded, Fits}
 use Rattle.crc32.specs.declared.Waiting.{Waiting}
 use Rattle.crc32.proofs.Walk.{Walked, walked-start, walked-rest, word-turn, next}
@@ -126,10 +126,12 @@ fold-is a b c d e w h g =
     t : ℕ
     t = x / 2 ^ 20
 
--- the steps of eight bytes, four at a time
-twice-four : (x : ℕ) → octets 4 (bitXor (octets 4 (x % 2 ^ 32)) (x / 2 ^ 32)) ≡ octets 8 x
+-- the steps of eight bytes, four and four
+two-fours : (x : ℕ) → bitXor (octets 8 (x % 2 ^ 32)) (octets 4 (x / 2 ^ 32)) ≡ octets 8 x
 unfolding octets
-twice-four x = ap (bitSteps 32) (sym (bitSteps-split 32 x)) ∙ sym (bitSteps-add 32 32 x)
+two-fours x =
+    ap (λ (i : ℕ). bitXor i (bitSteps 32 (x / 2 ^ 32))) (bitSteps-add 32 32 (x % 2 ^ 32))
+    ∙ sym (bitSteps-add 32 32 x ∙ ap (bitSteps 32) (bitSteps-split 32 x) ∙ bitSteps-xor 32 (bitSteps 32 (x % 2 ^ 32)) (x / 2 ^ 32))
 
 octets-over : (x y : ℕ) → octets 8 (over x y) ≡ bitXor (octets 8 x) y
 unfolding octets over
@@ -139,14 +141,13 @@ over-zero : (x : ℕ) → over x 0 ≡ x
 unfolding over
 over-zero x = xor-zero-r x
 
-pub settle-is : (a b c d e w half whole : ℕ) → half ≡ octets 4 (bitXor a w % 2 ^ 32) → whole ≡ octets 4 (bitXor half (bitXor a w / 2 ^ 32))
-    → over (bitXor b whole) (over c (over d (over e 0))) ≡ octets 8 (bitXor (over a (over b (over c (over d e)))) w)
-settle-is a b c d e w half whole p q =
-    ap₂ (λ (i j : ℕ). over i (over c (over d j))) (xor-comm b whole) (over-zero e) ∙ sym (xor-over whole b (over c (over d e)))
+pub settle-is : (a b c d e w u v : ℕ) → u ≡ octets 8 (bitXor a w % 2 ^ 32) → v ≡ octets 4 (bitXor a w / 2 ^ 32)
+    → over (bitXor b (bitXor u v)) (over c (over d (over e 0))) ≡ octets 8 (bitXor (over a (over b (over c (over d e)))) w)
+settle-is a b c d e w u v p q =
+    ap₂ (λ (i j : ℕ). over i (over c (over d j))) (xor-comm b (bitXor u v)) (over-zero e) ∙ sym (xor-over (bitXor u v) b (over c (over d e)))
     ∙ sym
     (ap (octets 8) (joined a y w) ∙ octets-over (bitXor a w) y
-    ∙ ap (λ (i : ℕ). bitXor i y)
-    (sym (twice-four (bitXor a w)) ∙ sym (q ∙ ap (λ (i : ℕ). octets 4 (bitXor i (bitXor a w / 2 ^ 32))) p)))
+    ∙ ap (λ (i : ℕ). bitXor i y) (sym (two-fours (bitXor a w)) ∙ ap₂ bitXor (sym p) (sym q)))
   where
     y : ℕ
     y = over b (over c (over d e))

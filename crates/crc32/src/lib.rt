@@ -22,7 +22,7 @@ pub fn update(c: u32, s: &[u8]) -> u32
         let t = tables::TWO_ROWS;
         bytes(&t, c, s)
     } else {
-        let t = tables::EIGHT_ROWS;
+        let t = tables::SIXTEEN_ROWS;
         words(&t, c, s)
     }
 }
@@ -45,7 +45,7 @@ pub fn crc32(s: &[u8]) -> u32
 
 // What the low byte of `x` becomes by its own steps and those of the `k` bytes behind it.
 fn look(t: &[u32], k: usize, x: u32) -> u32
-    requires { ⌜ Rows (now t) × (k * 32 + 32 ≤ length (now t)) × (k < 4) ⌝ }
+    requires { ⌜ Rows (now t) × (k * 32 + 32 ≤ length (now t)) × (k < 8) ⌝ }
     ensures { λ r. ⌜ r ≡ octets (suc k) (x % 256) ⌝ }
 {
     let high = k * 32 + ((x / 16 % 16) as usize);
@@ -68,20 +68,20 @@ fn bytes(t: &[u32], c: u32, s: &[u8]) -> u32
     r
 }
 
-// The steps of four bytes. The four look-ups do not wait for each other.
-fn steps(t: &[u32], x: u32) -> u32
-    requires { ⌜ Rows (now t) × (128 ≤ length (now t)) ⌝ }
-    ensures { λ r. ⌜ r ≡ octets 4 x ⌝ }
+// The steps of `n` bytes. The four look-ups do not wait for each other.
+fn steps(t: &[u32], n: usize, x: u32) -> u32
+    requires { ⌜ Rows (now t) × (n * 32 ≤ length (now t)) × (4 ≤ n) × (n ≤ 8) ⌝ }
+    ensures { λ r. ⌜ r ≡ octets n x ⌝ }
 {
     let mut a: u32 = 0;
     let mut y = x;
-    let mut k: usize = 4;
-    while 0 < k {
+    let mut k = n;
+    while n - 4 < k {
         k -= 1;
         a = a ^ look(t, k, y);
         y = y >> 8;
     }
-    a ^ y
+    a
 }
 
 // ---- by words of eight bytes: each is folded into words behind it by shifts alone, and only the last five go through the table
@@ -126,15 +126,15 @@ fn fold(f: Waiting, w: u64) -> Waiting
 
 // The next word goes through its steps.
 fn settle(t: &[u32], f: Waiting, w: u64) -> Waiting
-    requires { ⌜ Rows (now t) × (128 ≤ length (now t)) ⌝ }
+    requires { ⌜ Rows (now t) × (256 ≤ length (now t)) ⌝ }
     ensures { λ r. ⌜ register r ≡ octets 8 (bitXor (register f) w) ⌝ }
 {
     let x = f.a ^ w;
     let low = (x % 0x1_0000_0000) as u32;
     let high = (x / 0x1_0000_0000) as u32;
-    let whole = steps(t, steps(t, low) ^ high);
+    let whole = (steps(t, 8, low) as u64) ^ (steps(t, 4, high) as u64);
     Waiting {
-        a: f.b ^ (whole as u64),
+        a: f.b ^ whole,
         b: f.c,
         c: f.d,
         d: f.e,
@@ -144,7 +144,7 @@ fn settle(t: &[u32], f: Waiting, w: u64) -> Waiting
 
 // Folds a word a turn, as long as five are left behind it.
 fn words(t: &[u32], c: u32, s: &[u8]) -> u32
-    requires { ⌜ Rows (now t) × (128 ≤ length (now t)) ⌝ }
+    requires { ⌜ Rows (now t) × (256 ≤ length (now t)) ⌝ }
     ensures { λ r. ⌜ r ≡ bytesFrom c (now (s .entry)) ⌝ }
 {
     let mut f = Waiting {
@@ -165,7 +165,7 @@ fn words(t: &[u32], c: u32, s: &[u8]) -> u32
 
 // The words that are left, and what is less than a word.
 fn last_words(t: &[u32], f: Waiting, s: &[u8]) -> u32
-    requires { ⌜ Rows (now t) × (128 ≤ length (now t)) × Fits (register f) (length (now s)) ⌝ }
+    requires { ⌜ Rows (now t) × (256 ≤ length (now t)) × Fits (register f) (length (now s)) ⌝ }
     ensures { λ r. ⌜ r ≡ bytesFrom (register f) (now (s .entry)) ⌝ }
 {
     let mut g = f;
@@ -180,12 +180,12 @@ fn last_words(t: &[u32], f: Waiting, s: &[u8]) -> u32
 
 // Less than a word: four bytes at once, where there are so many.
 fn tail(t: &[u32], c: u32, s: &[u8]) -> u32
-    requires { ⌜ Rows (now t) × (128 ≤ length (now t)) ⌝ }
+    requires { ⌜ Rows (now t) × (256 ≤ length (now t)) ⌝ }
     ensures { λ r. ⌜ r ≡ bytesFrom c (now (s .entry)) ⌝ }
 {
     if s.len() < 4 {
         return bytes(t, c, s);
     }
     let w = word_of(&s[0..4]) as u32;
-    bytes(t, steps(t, c ^ w), &s[4..])
+    bytes(t, steps(t, 4, c ^ w), &s[4..])
 }

@@ -1,1 +1,2 @@
 mod Sums
+mod Determined

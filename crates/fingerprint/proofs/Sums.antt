@@ -4,12 +4,13 @@ use mathlib.Core.List.{List, [], _∷_, _++_, append-assoc}
 use mathlib.Core.Path.{_≡_, refl, sym, ap, ap₂, _∙_}
 use native.Mathlib.Omega.{arith}
 use borrow.Author.Tests.{lt-ltb, le-ltb}
-use lib.ListN.{length, take, drop, length-take}
-use lib.Seq.{take-take}
+use lib.ListN.{length, getD, take, drop, length-take}
+use lib.Seq.{take-take, take-add}
 use lib.Bits.{bitXor}
 use Rattle.base.specs.Laid.{laid, laid-is}
 use Rattle.base.specs.Lists.{drop-take}
-use Rattle.numbers.specs.Numbers.{two, withLength}
+use Rattle.numbers.specs.Numbers.{be16, two, withLength}
+use Rattle.numbers.specs.NumbersLaws.{four-at}
 use Rattle.crc32.specs.Crc.{bytesFrom, finished, crc32Of}
 use Rattle.crc32.specs.CrcLaws.{bytesFrom-append}
 use Rattle.fingerprint.specs.Fingerprint.{fingerprintAt, printed}
@@ -33,6 +34,26 @@ summed d p {a} {b} {c} {r} h l e f g i =
     ∙ sym g
     in
     ap (λ (x : ℕ). bitXor x 0x5354554E) (i ∙ ap finished (sym q ∙ ap (bytesFrom 0xFFFF_FFFF) (sym (parts d p n h l))))
+
+-- a length that stands there already changes nothing
+pub as-it-stands : (d : List ℕ) → ((i : ℕ) → getD d i 0 < 256) → (p : ℕ) {u r : ℕ} → 20 ≤ p → p ≤ length d
+    → u ≡ be16 d 2 → u ≡ p - 20 + 8 → r ≡ crc32Of (take (p - 0) d) → bitXor r 0x5354554E ≡ fingerprintAt d p
+unfolding fingerprintAt be16
+as-it-stands d bs p {u} {r} h l e f g =
+    let n : ℕ = p - 20 + 8 in
+    let a : ℕ = getD d 2 0 in
+    let b : ℕ = getD d 3 0 in
+    let high : n / 256 ≡ a = omega (arith, bs 3) in
+    let low : n % 256 ≡ b = omega (arith, bs 3) in
+    let at : d ≡ getD d 0 0 ∷ getD d 1 0 ∷ a ∷ b ∷ drop 4 d = four-at d 0 (omega arith) in
+    let start : take 4 d ≡ take 2 d ++ two n =
+    rw (high, low) (ap (take 4) at ∙ sym (ap (λ (x : List ℕ). take 2 x ++ (a ∷ b ∷ [])) at))
+    in
+    let q : p - 0 ≡ 4 + (p - 4) = omega arith in
+    let same : take (p - 0) d ≡ withLength (take p d) n =
+    ap (λ (k : ℕ). take k d) q ∙ take-add 4 (p - 4) d ∙ ap (λ (x : List ℕ). x ++ take (p - 4) (drop 4 d)) start ∙ sym (parts d p n h l)
+    in
+    ap (λ (x : ℕ). bitXor x 0x5354554E) (g ∙ ap crc32Of same)
 
 module _ (d : List ℕ) (p : ℕ) where
   pub in-header : p < 20 → 0 ≡ printed d p

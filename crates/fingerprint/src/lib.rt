@@ -3,15 +3,20 @@ ghost use mathlib.Core.Path.{_≡_};
 ghost use Prim.Native.Nat.{_+_, _-_, _≤_};
 ghost use lib.ListN.{length};
 ghost use Rattle.fingerprint.specs.Fingerprint.{fingerprintAt, printed};
+use numbers::u16_at;
 
 pub const FINGERPRINT: u16 = 0x8028;
 
-// The register goes over the bytes with another number in the length field, so nothing is copied.
+// Where the FINGERPRINT is last, its length stands in the length field already. Else the register goes over the bytes in
+// three parts, with another number in that field, so that nothing is copied.
 fn print_at(d: &[u8], p: usize) -> u32
     requires { ⌜ (20 ≤ p) × (p ≤ length (now d)) × (p - 20 + 8 ≤ 65535) ⌝ }
     ensures { λ r. ⌜ r ≡ fingerprintAt (now (d .entry)) p ⌝ }
 {
     let n = p - 20 + 8;
+    if u16_at(d, 2) as usize == n {
+        return crc32::crc32(&d[0..p]) ^ 0x5354554E;
+    }
     let long = [(n / 256) as u8, (n % 256) as u8];
     let a = crc32::update(crc32::START, &d[0..2]);
     let b = crc32::update(a, &long);

@@ -1,3 +1,5 @@
 mod Faults
+mod Fronts
 mod Scans
 mod Answers
+mod Determined

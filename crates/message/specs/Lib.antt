@@ -1,1 +1,4 @@
 pub mod Reading
+pub mod Front
+pub mod Whole
+pub mod WholeLaws

@@ -1,9 +1,11 @@
 // The reader: any bytes in; whole, broken or refused out.
 ghost use mathlib.Core.Path.{_≡_};
-ghost use Prim.Native.Nat.{_+_, _≤_};
+ghost use Prim.Native.Nat.{_+_, _≤_, _<_};
 ghost use lib.ListN.{length, take, drop};
 ghost use Rattle.attribute.specs.Scan.{scanned};
+ghost use Rattle.attribute.specs.ScanLaws.{Scanning};
 ghost use Rattle.rfc5389.specs.Rows.{rfc5389};
+ghost use Rattle.message.specs.Front.{pastOf};
 ghost use Rattle.message.specs.Reading.{printFault, valueFaults, printFaults, outcome, readingOf};
 use attribute::Scan;
 use attribute::Walk;
@@ -39,13 +41,44 @@ pub struct Reading {
     pub id: TransactionId,
 }
 
+// As far as no FINGERPRINT stands: the place, and how many attributes stand before it.
+struct Front {
+    at: usize,
+    count: usize,
+}
+
+// What the values come to, and where the FINGERPRINTs begin.
+struct Found {
+    scan: Scan,
+    front: Front,
+}
+
+// The front goes on past an attribute where it ends, unless that is a FINGERPRINT.
+fn past(front: Front, at: usize, kind: u16, next: usize) -> Front
+    requires { ⌜ (front .count ≤ front .at) × (at < next) ⌝ }
+    ensures { λ r. ⌜ r ≡ pastOf front at kind next ⌝ }
+{
+    if front.at != at {
+        return front;
+    }
+    if kind == FINGERPRINT {
+        return front;
+    }
+    Front {
+        at: next,
+        count: front.count + 1,
+    }
+}
+
 // The attributes' values, from the first: 10 to 14.
-fn values(d: &[u8]) -> Scan
+fn values(d: &[u8]) -> Found
     requires { ⌜ 20 ≤ length (now d) ⌝ }
-    ensures { λ r. ⌜ r ≡ scanned (valueFaults rfc5389) (now (d .entry)) ⌝ }
+    ensures scan { λ r. ⌜ r .scan ≡ scanned (valueFaults rfc5389) (now (d .entry)) ⌝ }
+    ensures front { λ r. ⌜ Scanning (printFaults (now (d .entry))) (now (d .entry)) (r .front .at) (r .front .count) ⌝ }
 {
     let mut at = 20;
     let mut count = 0;
+    let mut front = Front { at: 20, count: 0 };
     loop {
         let w = step(d, at);
         let Walk::Attribute {
@@ -58,12 +91,18 @@ fn values(d: &[u8]) -> Scan
         else {
             match w {
                 Walk::End { at: _ } => {
-                    return Scan::Passed { count };
+                    return Found {
+                        scan: Scan::Passed { count },
+                        front,
+                    };
                 }
                 Walk::Cut { at: p } => {
-                    return Scan::Fault {
-                        reason: 10,
-                        place: p,
+                    return Found {
+                        scan: Scan::Fault {
+                            reason: 10,
+                            place: p,
+                        },
+                        front,
                     };
                 }
                 Walk::Attribute {
@@ -73,17 +112,24 @@ fn values(d: &[u8]) -> Scan
                     size: _,
                     next: _,
                 } => {
-                    return Scan::Passed { count: 0 };
+                    return Found {
+                        scan: Scan::Passed { count: 0 },
+                        front,
+                    };
                 }
             }
         };
         let f = rfc5389::fault(kind, &d[value..value + size]);
         if f != 0 {
-            return Scan::Fault {
-                reason: f,
-                place: at,
+            return Found {
+                scan: Scan::Fault {
+                    reason: f,
+                    place: at,
+                },
+                front,
             };
         }
+        front = past(front, at, kind, next);
         count += 1;
         at = next;
     }
@@ -109,13 +155,13 @@ fn print_fault(d: &[u8], p: usize, kind: u16, size: usize) -> u8
     15
 }
 
-// Each FINGERPRINT, from the first.
-fn prints(d: &[u8]) -> Scan
-    requires { ⌜ 20 ≤ length (now d) ⌝ }
+// Each FINGERPRINT, from the first: none stands before `from`, and `before` attributes do.
+fn prints(d: &[u8], from: usize, before: usize) -> Scan
+    requires { ⌜ Scanning (printFaults (now d)) (now d) from before ⌝ }
     ensures { λ r. ⌜ r ≡ scanned (printFaults (now (d .entry))) (now (d .entry)) ⌝ }
 {
-    let mut at = 20;
-    let mut count = 0;
+    let mut at = from;
+    let mut count = before;
     loop {
         let w = step(d, at);
         let Walk::Attribute {
@@ -164,13 +210,17 @@ fn judged(d: &[u8]) -> Scan
     requires { ⌜ 20 ≤ length (now d) ⌝ }
     ensures { λ r. ⌜ r ≡ outcome rfc5389 (now (d .entry)) ⌝ }
 {
-    let s = values(d);
+    let j = values(d);
+    let s = j.scan;
     match s {
         Scan::Fault {
             reason: _,
             place: _,
         } => s,
-        Scan::Passed { count: _ } => prints(d),
+        Scan::Passed { count: _ } => {
+            let front = j.front;
+            prints(d, front.at, front.count)
+        }
     }
 }
 

@@ -18,53 +18,21 @@ use Rattle.header.specs.Header.{headerFault}
 use Rattle.header.specs.HeaderLaws.{long, sized}
 use Rattle.attribute.specs.Attribute.{padded, Attr, Body, stop, more, attrs, rest, parse, bytesOf, allBytes}
 use Rattle.attribute.specs.RoundTrip.{Good, Goods, goods-read, write-read}
-use Rattle.attribute.specs.Scan.{scan, scanned}
-use Rattle.attribute.specs.declared.Scan.{Scan}
-use Rattle.attribute.specs.declared.Scan.the-variants.{Passed, Fault}
 use Rattle.fingerprint.specs.Fingerprint.{fingerprintAt}
 use Rattle.fingerprint.specs.StretchLaws.{Sealed, stretch-sealed}
 use Rattle.rfc5389.specs.declared.Row.{Row}
-use Rattle.message.specs.Reading.{valueFaults, printFault, printFaults, andThen, outcome}
+use Rattle.attribute.specs.PassLaws.{Pass}
+use Rattle.message.specs.Reading.{printFault, printFaults}
+use Rattle.message.specs.Whole.{Whole, attributes}
+use Rattle.message.specs.WholeLaws.{parts}
 
--- an attribute that passed, and the rest judged behind it
-module _ (f : ℕ → Attr → ℕ) where
-  passed-more : (n p m : ℕ) (a : Attr) (b : Body) → scan f n p (more a b) ≡ Passed m
-      → (f p a ≡ 0) × (scan f (n + 1) (p + length (bytesOf a)) b ≡ Passed m)
-  unfolding scan
-  passed-more n p m a b e = go (eqb (f p a) 0) refl e
-    where
-      go : (q : Bool) → eqb (f p a) 0 ≡ q
-          → pick q (scan f (n + 1) (p + length (bytesOf a)) b) (Fault (f p a) p) ≡ Passed m
-          → (f p a ≡ 0) × (scan f (n + 1) (p + length (bytesOf a)) b ≡ Passed m)
-      go true i e = (eqb-true (f p a) 0 i, e)
-      go false i e = let z : _≡_ {A = ℕ} 0 1 = cc in absurd (omega arith)
-
-  passed-stop : (n p m : ℕ) (r : List ℕ) → scan f n p (stop r) ≡ Passed m → r ≡ []
-  unfolding scan
-  passed-stop n p m [] e = refl
-  passed-stop n p m (b ∷ r) e = let z : _≡_ {A = ℕ} 0 1 = cc in absurd (omega arith)
-
-  -- the last of them, and nothing behind it
-  passed-last : (n p m : ℕ) (b : Body) (ys : List Attr) (a : Attr) → attrs b ≡ ys ++ (a ∷ []) → scan f n p b ≡ Passed m
-      → (f (p + length (allBytes ys)) a ≡ 0) × (rest b ≡ [])
-  passed-last n p m (stop r) [] a e s = absurd (omega (arith, ap length e))
-  passed-last n p m (stop r) (y ∷ ys) a e s = absurd (omega (arith, ap length e))
-  passed-last n p m (more x (stop r)) [] a e s =
-      let q : (f p x ≡ 0) × (scan f (n + 1) (p + length (bytesOf x)) (stop r) ≡ Passed m) = passed-more n p m x (stop r) s in
-      let i : x ≡ a = cc in
-      let j : p + 0 ≡ p = omega arith in
-      (ap₂ f j (sym i) ∙ q .0, passed-stop (n + 1) (p + length (bytesOf x)) m r (q .1))
-  passed-last n p m (more x (more y b)) [] a e s = absurd (omega (arith, ap length e))
-  passed-last n p m (more x b) (y ∷ ys) a e s =
-      let q : (f p x ≡ 0) × (scan f (n + 1) (p + length (bytesOf x)) b ≡ Passed m) = passed-more n p m x b s in
-      let i : x ≡ y = cc in
-      let j : attrs b ≡ ys ++ (a ∷ []) = cc in
-      let r : (f (p + length (bytesOf x) + length (allBytes ys)) a ≡ 0) × (rest b ≡ []) =
-      passed-last (n + 1) (p + length (bytesOf x)) m b ys a j (q .1)
-      in
-      let l : length (bytesOf y ++ allBytes ys) ≡ length (bytesOf x) + length (allBytes ys) = rw i (length-append (bytesOf y) (allBytes ys)) in
-      let k : p + length (bytesOf y ++ allBytes ys) ≡ p + length (bytesOf x) + length (allBytes ys) = omega (arith, l) in
-      (ap (λ (z : ℕ). f z a) k ∙ r .0, r .1)
+-- the last of attributes that pass
+pass-last : (f : ℕ → Attr → ℕ) (p : ℕ) (ys : List Attr) (a : Attr) → Pass f p (ys ++ (a ∷ [])) → f (p + length (allBytes ys)) a ≡ 0
+pass-last f p [] a h = let e : p + 0 ≡ p = omega arith in ap (λ (q : ℕ). f q a) e ∙ h .0
+pass-last f p (y ∷ ys) a h =
+    let l : length (bytesOf y ++ allBytes ys) ≡ length (bytesOf y) + length (allBytes ys) = length-append (bytesOf y) (allBytes ys) in
+    let e : p + length (bytesOf y ++ allBytes ys) ≡ p + length (bytesOf y) + length (allBytes ys) = omega (arith, l) in
+    ap (λ (q : ℕ). f q a) e ∙ pass-last f (p + length (bytesOf y)) ys a (h .1)
 
 -- a FINGERPRINT that passed has the sum as its value
 right-print : (d : List ℕ) (p k : ℕ) (v : List ℕ) → k ≡ 0x8028 → printFault d p k v ≡ 0 → v ≡ four (fingerprintAt d p)
@@ -87,25 +55,21 @@ good-last : (ys : List Attr) (a : Attr) → Goods (ys ++ (a ∷ [])) → Good a
 good-last [] a g = g .0
 good-last (y ∷ ys) a g = good-last ys a (g .1)
 
--- a datagram that isn't refused, whose FINGERPRINTs are right and whose last attribute is one, ends in it
-module _ (d : List ℕ) (h : Bytes d) (g : headerFault d ≡ 0) {m : ℕ} (s : scanned (printFaults d) d ≡ Passed m)
-    (ys : List Attr) (a : Attr) (e : attrs (parse 0 (drop 20 d)) ≡ ys ++ (a ∷ [])) (k : a .kind ≡ 0x8028) where
+-- a whole datagram whose last attribute is a FINGERPRINT ends in a right one
+module _ (rows : List Row) (d : List ℕ) (h : Bytes d) (w : Whole rows d) (ys : List Attr) (a : Attr)
+  (e : attributes d ≡ ys ++ (a ∷ [])) (k : a .kind ≡ 0x8028) where
   abbrev at : ℕ
   at = 20 + length (allBytes ys)
 
-  last : (printFaults d at a ≡ 0) × (rest (parse 0 (drop 20 d)) ≡ [])
-  unfolding scanned
-  last = passed-last (printFaults d) 0 20 m (parse 0 (drop 20 d)) ys a e s
-
   value : a .value ≡ four (fingerprintAt d at)
   unfolding printFaults
-  value = right-print d at (a .kind) (a .value) k (last .0)
+  value = right-print d at (a .kind) (a .value) k (pass-last (printFaults d) 20 ys a (rw e at (parts rows d w .prints)))
 
   body : allBytes ys ++ bytesOf a ≡ drop 20 d
   body =
       ap (λ (l : List ℕ). allBytes ys ++ l) (sym (append-nil (bytesOf a))) ∙ sym (all-append ys (a ∷ [])) ∙ ap allBytes (sym e)
       ∙ sym (append-nil (allBytes (attrs (parse 0 (drop 20 d)))))
-      ∙ ap (λ (l : List ℕ). allBytes (attrs (parse 0 (drop 20 d))) ++ l) (sym (last .1)) ∙ write-read 0 (drop 20 d) (drop-bytes 20 d h)
+      ∙ ap (λ (l : List ℕ). allBytes (attrs (parse 0 (drop 20 d))) ++ l) (sym (parts rows d w .covered)) ∙ write-read 0 (drop 20 d) (drop-bytes 20 d h)
 
   pad : a .pad ≡ []
   pad =
@@ -122,11 +86,37 @@ module _ (d : List ℕ) (h : Bytes d) (g : headerFault d ≡ 0) {m : ℕ} (s : s
 
   pub sealed : Sealed d at
   sealed =
+      let g : headerFault d ≡ 0 = parts rows d w .header in
       let l : 20 ≤ length d = long d g in
-      let n : length d - 20 ≡ length (allBytes ys) + 8 = sym (length-drop 20 d) ∙ sym (ap length body) ∙ length-append (allBytes ys) (bytesOf a) ∙ ap (λ (x : List ℕ). length (allBytes ys) + length x) bytes in
-      record {
-        low = omega arith;
-        long = omega arith;
-        field = omega (arith, sized d g);
-        print = sym (drop-drop (length (allBytes ys)) 20 d) ∙ ap (drop (length (allBytes ys))) (sym body) ∙ drop-append-seam (allBytes ys) (bytesOf a) ∙ bytes;
+      let n : length d - 20 ≡ length (allBytes ys) + 8 =
+          sym (length-drop 20 d) ∙ sym (ap length body) ∙ length-append (allBytes ys) (bytesOf a)
+          ∙ ap (λ (x : List ℕ). length (allBytes ys) + length x) bytes
+      in
+      record
+      { low = omega arith
+      ; long = omega arith
+      ; field = omega (arith, sized d g)
+      ; print =
+          sym (drop-drop (length (allBytes ys)) 20 d) ∙ ap (drop (length (allBytes ys))) (sym body)
+          ∙ drop-append-seam (allBytes ys) (bytesOf a) ∙ bytes
       }
+
+-- d is whole, and its last attribute is a FINGERPRINT
+pub record Ends (rows : List Row) (d : List ℕ) : Type 0 where
+  pub bytes : Bytes d
+  pub whole : Whole rows d
+  pub before : List Attr
+  pub print : Attr
+  pub last : attributes d ≡ before ++ (print ∷ [])
+  pub kind : print .kind ≡ 0x8028
+
+ending : {rows : List Row} {d : List ℕ} (x : Ends rows d) → Sealed d (20 + length (allBytes (x .before)))
+ending {rows} {d} x = sealed rows d (x .bytes) (x .whole) (x .before) (x .print) (x .last) (x .kind)
+
+pub stretch : (rows : List Row) (d e : List ℕ) (k : ℕ) → Ends rows d → Ends rows e → length d ≡ length e
+  → ((j : ℕ) → (j < k) ⊎ (k + 4 ≤ j) → getD d j 0 ≡ getD e j 0) → d ≡ e
+stretch rows d e k x y l same =
+    let p : ℕ = 20 + length (allBytes (x .before)) in
+    let q : 20 + length (allBytes (y .before)) ≡ p = omega (arith, ending x .long, ending y .long, l) in
+    stretch-sealed d e p k (x .bytes) (y .bytes) (ending x) (rw q at (ending y)) same
+

@@ -1,17 +1,17 @@
--- Four bytes of steps, a byte a turn from the lowest.
+-- Four look-ups, a byte a turn from the lowest.
 use Rattle.crc32.proofs.Walk.{Stepped, stepped-start, step-turn, stepped-done}
 use borrow.Author.Needs.{needs}
 use Rattle.crc32.proofs.steps.Statement.{statement}
 use Rattle.crc32.proofs.steps.Tie as tie
 
 abbrev Inv-loop : tie.InvT-loop
-Inv-loop t x a₀ y₀ k₀ a y k = Stepped x a y k
+Inv-loop t n x a₀ y₀ k₀ a y k = Stepped n x a y k
 
 abbrev μ-loop : tie.MeasureT-loop
-μ-loop t x a₀ y₀ k₀ a y k = k
+μ-loop t n x a₀ y₀ k₀ a y k = k
 
 loop-holds : tie.Need-loop-holds Inv-loop μ-loop
-loop-holds c = search (stepped-start)
+loop-holds c = stepped-start _ _ (search needs)
 
 loop-again : tie.Need-loop-again Inv-loop μ-loop
 loop-again c = search (step-turn)
@@ -22,4 +22,4 @@ returns c = search (stepped-done)
 pub steps-spec : {M : Type 1} → statement M
 steps-spec =
     tie.close
-    (tie.spec Inv-loop μ-loop loop-holds (λ c. search needs) (λ c κs. search needs) (λ c. search needs) loop-again returns)
+    (tie.spec Inv-loop μ-loop loop-holds (λ c. search needs) (λ c. search needs) (λ c κs. search needs) (λ c. search needs) loop-again returns)

@@ -4,10 +4,10 @@ use Rattle.message.proofs.judged.Statement.{statement}
 use Rattle.message.proofs.judged.Tie as tie
 
 returns : tie.Need-returns
-returns c = search (first, second)
+returns c = search (first)
 
 returns-2 : tie.Need-returns-2
-returns-2 c = search (first, second)
+returns-2 c = search (second)
 
 pub judged-spec : {M : Type 1} → statement M
 judged-spec =

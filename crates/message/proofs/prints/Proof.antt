@@ -2,7 +2,7 @@ use Prim.Native.Nat.{_-_}
 use mathlib.Core.Logic.{⊎-elim}
 use native.Mathlib.Omega.{arith}
 use lib.ListN.{length}
-use Rattle.attribute.specs.ScanLaws.{Scanning, start, passed, cut, within, less}
+use Rattle.attribute.specs.ScanLaws.{Scanning, passed, cut, less}
 use Rattle.message.specs.Reading.{printFaults}
 use Rattle.message.proofs.Scans.{print-room, print-on, print-decides}
 use borrow.Author.Needs.{needs}
@@ -10,13 +10,13 @@ use Rattle.message.proofs.prints.Statement.{statement}
 use Rattle.message.proofs.prints.Tie as tie
 
 abbrev Inv-loop : tie.InvT-loop
-Inv-loop d at₀ count₀ at count = Scanning (printFaults d) d at count
+Inv-loop d from before at₀ count₀ at count = Scanning (printFaults d) d at count
 
 abbrev μ-loop : tie.MeasureT-loop
-μ-loop d at₀ count₀ at count = length d - at
+μ-loop d from before at₀ count₀ at count = length d - at
 
 loop-holds : tie.Need-loop-holds Inv-loop μ-loop
-loop-holds c = start _ _ (c .before .pre)
+loop-holds c = c .before .pre
 
 returns : tie.Need-returns Inv-loop μ-loop
 returns c = search (passed)

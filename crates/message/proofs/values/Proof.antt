@@ -4,44 +4,49 @@ use native.Mathlib.Omega.{arith}
 use lib.ListN.{length}
 use Rattle.attribute.specs.ScanLaws.{Scanning, start, passed, cut, within, less}
 use Rattle.rfc5389.specs.Rows.{rfc5389}
-use Rattle.message.specs.Reading.{valueFaults}
+use Rattle.message.specs.Reading.{valueFaults, printFaults}
+use Rattle.message.proofs.Fronts.{onward, front-turn}
 use Rattle.message.proofs.Scans.{value-on, value-decides}
 use borrow.Author.Needs.{needs}
 use Rattle.message.proofs.values.Statement.{statement}
 use Rattle.message.proofs.values.Tie as tie
 
 abbrev Inv-loop : tie.InvT-loop
-Inv-loop d at₀ count₀ at count = Scanning (valueFaults rfc5389) d at count
+Inv-loop d at₀ count₀ front₀ at count front =
+    Scanning (valueFaults rfc5389) d at count × Scanning (printFaults d) d (front .at) (front .count)
 
 abbrev μ-loop : tie.MeasureT-loop
-μ-loop d at₀ count₀ at count = length d - at
+μ-loop d at₀ count₀ front₀ at count front = length d - at
 
 loop-holds : tie.Need-loop-holds Inv-loop μ-loop
-loop-holds c = start _ _ (c .before .pre)
+loop-holds c = (start _ _ (c .before .pre), start _ _ (c .before .pre))
 
 returns : tie.Need-returns Inv-loop μ-loop
-returns c = search (passed)
+returns c = (search (passed), search needs)
 
 returns-2 : tie.Need-returns-2 Inv-loop μ-loop
-returns-2 c = search (cut)
+returns-2 c = (search (cut), search needs)
 
 returns-3 : tie.Need-returns-3 Inv-loop μ-loop
 returns-3 c = absurd (⊎-elim (λ w. omega (arith, c .before .match2 .keys3)) (λ w. omega (arith, c .before .match2 .keys3)) (c .before .before .match .keys2))
 
 add-fault : tie.Need-add-fault Inv-loop μ-loop
-add-fault c = omega (arith, within (c .before .before .before .before .loop .inv) (c .before .w .given .1) (c .before .before .before .step .ensures))
+add-fault c = omega (arith, within (c .before .before .before .before .loop .inv .0) (c .before .w .given .1) (c .before .before .before .step .ensures))
 
 part-fault-end : tie.Need-part-fault-end Inv-loop μ-loop
 part-fault-end c = search (within)
 
 returns-4 : tie.Need-returns-4 Inv-loop μ-loop
-returns-4 c = search (value-decides)
+returns-4 c = (search (value-decides), search needs)
+
+past-requires : tie.Need-past-requires Inv-loop μ-loop
+past-requires c κs = (search needs, search (onward))
+
+loop-again : tie.Need-loop-again Inv-loop μ-loop
+loop-again c = (search (value-on), search (front-turn))
 
 loop-less : tie.Need-loop-less Inv-loop μ-loop
 loop-less c = search (less)
-
-loop-again : tie.Need-loop-again Inv-loop μ-loop
-loop-again c = search (value-on)
 
 pub values-spec : {M : Type 1} → statement M
 values-spec =
@@ -64,6 +69,7 @@ values-spec =
     part-fault-end
     (λ c κs. search needs)
     returns-4
+    past-requires
     (λ c. search needs)
     loop-less
     loop-again)

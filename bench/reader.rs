@@ -1,0 +1,172 @@
+//! The reader beside libnice's `stun_agent_validate`, with its FINGERPRINT check and no credentials, and beside a reader written by hand.
+use crate::measure;
+use crate::plain::{self, Said};
+use std::ffi::{c_int, c_void};
+use std::hint::black_box;
+use std::ptr::null_mut;
+
+#[link(name = "bench", kind = "static")]
+extern "C" {
+    fn bench_read(d: *const u8, n: usize) -> Said;
+    fn bench_crc32(s: *const u8, n: usize) -> u32;
+}
+
+/// libnice's own structs (stun/stunagent.h, stun/stunmessage.h).
+#[repr(C)]
+#[derive(Clone, Copy)]
+struct SavedId {
+    id: [u8; 16],
+    method: c_int,
+    key: *mut u8,
+    key_len: usize,
+    long_term_key: [u8; 16],
+    long_term_valid: bool,
+    valid: bool,
+}
+
+#[repr(C)]
+struct Agent {
+    compatibility: c_int,
+    sent_ids: [SavedId; 200],
+    known_attributes: *const u16,
+    usage_flags: c_int,
+    software: *const u8,
+    legacy: bool,
+}
+
+#[repr(C)]
+struct Message {
+    agent: *mut Agent,
+    buffer: *mut u8,
+    buffer_len: usize,
+    key: *mut u8,
+    key_len: usize,
+    long_term_key: [u8; 16],
+    long_term_valid: bool,
+}
+
+const RFC5389: c_int = 1;
+const USE_FINGERPRINT: c_int = 1 << 2;
+const IGNORE_CREDENTIALS: c_int = 1 << 4;
+const SUCCESS: c_int = 0;
+const KNOWN: [u16; 12] = [0x0001, 0x0006, 0x0008, 0x0009, 0x000A, 0x0014, 0x0015, 0x0020, 0x8022, 0x8023, 0x8028, 0];
+
+#[link(name = "nice")]
+extern "C" {
+    fn stun_agent_init(agent: *mut Agent, known: *const u16, compatibility: c_int, flags: c_int);
+    fn stun_agent_validate(agent: *mut Agent, m: *mut Message, b: *const u8, n: usize, validater: *const c_void, data: *mut c_void) -> c_int;
+}
+
+fn ours(d: &[u8]) -> Said {
+    unsafe { bench_read(d.as_ptr(), d.len()) }
+}
+
+/// An agent that waits for the answer to the request of one ID.
+fn agent(id: &[u8]) -> Box<Agent> {
+    let mut a: Box<Agent> = unsafe { Box::new(std::mem::zeroed()) };
+    unsafe { stun_agent_init(&mut *a, KNOWN.as_ptr(), RFC5389, USE_FINGERPRINT | IGNORE_CREDENTIALS) };
+    a.sent_ids[0].id.copy_from_slice(id);
+    a.sent_ids[0].method = 1;
+    a
+}
+
+fn libnice(a: &mut Agent, d: &[u8]) -> bool {
+    // an answer that is taken is waited for no more
+    a.sent_ids[0].valid = true;
+    let mut m = Message { agent: null_mut(), buffer: null_mut(), buffer_len: 0, key: null_mut(), key_len: 0, long_term_key: [0; 16], long_term_valid: false };
+    unsafe { stun_agent_validate(a, &mut m, d.as_ptr(), d.len(), std::ptr::null(), null_mut()) == SUCCESS }
+}
+
+fn attribute(d: &mut Vec<u8>, kind: u16, value: &[u8]) {
+    d.extend(kind.to_be_bytes());
+    d.extend((value.len() as u16).to_be_bytes());
+    d.extend(value);
+    d.resize((d.len() + 3) / 4 * 4, 0);
+    let body = (d.len() - 20) as u16;
+    d[2..4].copy_from_slice(&body.to_be_bytes());
+}
+
+fn fingerprint(d: &mut Vec<u8>) {
+    let p = d.len();
+    attribute(d, 0x8028, &[0; 4]);
+    let sum = unsafe { bench_crc32(d.as_ptr(), p) } ^ 0x5354_554E;
+    d[p + 4..].copy_from_slice(&sum.to_be_bytes());
+}
+
+/// A header without attributes.
+fn header(kind: u16) -> Vec<u8> {
+    let mut d = kind.to_be_bytes().to_vec();
+    d.extend([0, 0, 0x21, 0x12, 0xA4, 0x42]);
+    d.extend(0..12);
+    d
+}
+
+/// A Binding response of 100 bytes with SOFTWARE, XOR-MAPPED-ADDRESS, MESSAGE-INTEGRITY and FINGERPRINT.
+fn response() -> Vec<u8> {
+    let mut d = header(0x0101);
+    attribute(&mut d, 0x8022, b"a server of thirty bytes, 1.00");
+    attribute(&mut d, 0x0020, &[0, 1, 0xA1, 0x47, 0xE1, 0x12, 0xA6, 0x43]);
+    attribute(&mut d, 0x0008, &[0xA5; 20]);
+    fingerprint(&mut d);
+    d
+}
+
+/// A response with REALM, NONCE and ERROR-CODE, in words of several scripts.
+fn error() -> Vec<u8> {
+    let mut d = header(0x0111);
+    attribute(&mut d, 0x0009, "\0\0\u{4}\u{1}Keine Befugnis für dich".as_bytes());
+    attribute(&mut d, 0x0015, b"f//499k954d6OL34oL9FSTvy64sA");
+    attribute(&mut d, 0x0014, "例え.example".as_bytes());
+    attribute(&mut d, 0x000A, &[0, 3, 0, 0x26]);
+    fingerprint(&mut d);
+    d
+}
+
+/// A Binding request with USERNAME and types that are not known.
+fn request() -> Vec<u8> {
+    let mut d = header(0x0001);
+    attribute(&mut d, 0x0006, b"evtj:h6vY");
+    attribute(&mut d, 0x0024, &[0x6E, 0, 1, 0xFF]);
+    attribute(&mut d, 0x8029, &[0x93, 0x2F, 0xFF, 0xB1, 0x51, 0x26, 0x3B, 0x36]);
+    attribute(&mut d, 0x8023, &[0, 2, 0xA1, 0x47, 1, 2, 3, 4, 5, 6, 7, 8, 9, 10, 11, 12, 13, 14, 15, 16]);
+    fingerprint(&mut d);
+    d
+}
+
+/// Every cut and every change of a byte of three messages, with the length field made right again and as it was.
+fn compare() {
+    for mut d in [response(), error(), request()] {
+        assert_eq!(ours(&d).number, 0);
+        assert_eq!(ours(&d), plain::read(&d));
+        for n in 0..d.len() {
+            assert_eq!(ours(&d[..n]), plain::read(&d[..n]));
+            if n >= 20 {
+                let mut e = d[..n].to_vec();
+                e[2..4].copy_from_slice(&((n - 20) as u16).to_be_bytes());
+                assert_eq!(ours(&e), plain::read(&e));
+            }
+            let was = d[n];
+            for b in 0..=255 {
+                d[n] = b;
+                assert_eq!(ours(&d), plain::read(&d), "byte {n} is {b}");
+            }
+            d[n] = was;
+        }
+    }
+}
+
+pub fn run() {
+    compare();
+    let d = response();
+    let mut a = agent(&d[4..20]);
+    assert!(libnice(&mut a, &d));
+    let mut wrong = d.clone();
+    wrong[40] ^= 1;
+    assert!(!libnice(&mut a, &wrong) && ours(&wrong).number == 15);
+    measure::row("read", d.len(), "libnice", || _ = black_box(ours(black_box(&d))), || _ = black_box(libnice(&mut a, black_box(&d))));
+    for (name, d) in [("response", response()), ("error", error()), ("request", request()), ("header", header(0x0001))] {
+        measure::row(&format!("read, {name}"), d.len(), "Rust by hand", || _ = black_box(ours(black_box(&d))), || {
+            _ = black_box(plain::read(black_box(&d)))
+        });
+    }
+}

@@ -1,0 +1,102 @@
+-- The attributes of a body cover it, and the walk visits just those.
+use Prim.Native.Nat.{ℕ, zero, suc, _+_, _-_, _*_, _≤_, _<_}
+use mathlib.Core.List.{List, [], _∷_}
+use mathlib.Core.Path.{_≡_, refl, sym, ap, ap₂, _∙_, subst}
+use native.Mathlib.Omega.{arith}
+use native.Mathlib.Decide.{decLt}
+use borrow.Author.Tests.{eq-eqb, le-ltb, le-leb, lt-leb}
+use lib.ListN.{length, take, drop, length-drop}
+use lib.Seq.{length-take-le}
+use lib.Dec.{leb}
+use Rattle.base.specs.Choice.{pick}
+use Rattle.numbers.specs.Numbers.{be16}
+use Rattle.header.specs.Header.{headerFault}
+use Rattle.header.specs.HeaderLaws as header
+use Rattle.attribute.specs.Attribute.{padded, Attr, Body, stop, more, attrs, rest, attrOf, parse}
+use Rattle.attribute.specs.Walk.{stepAt, walkAt}
+use Rattle.attribute.specs.WalkLaws.{At, beyond, ended, short, long, attribute, view, at-step}
+use Rattle.attribute.specs.BodyLaws.{bodyOf, unroll}
+use Rattle.attribute.specs.ScanLaws.{found}
+use Rattle.attribute.specs.declared.Walk.{Walk}
+use Rattle.attribute.specs.declared.Walk.the-variants.{Attribute, End}
+
+-- 4 plus the padded size, summed
+abbrev pub sizes : List Attr → ℕ
+sizes [] = 0
+sizes (a ∷ xs) = 4 + padded (length (a .value)) + sizes xs
+
+size-case : (a b c e : ℕ) (r : List ℕ) (x : Body) → sizes (attrs x) + length (rest x) ≡ length r - padded (c * 256 + e)
+    → Dec (length r < padded (c * 256 + e))
+    → (y : Body) → y ≡ pick (leb (padded (c * 256 + e)) (length r)) (more (attrOf (a * 256 + b) (c * 256 + e) r) x) (stop (a ∷ b ∷ c ∷ e ∷ r))
+    → sizes (attrs y) + length (rest y) ≡ 4 + length r
+size-case a b c e r x q (yes l) y f = rw (f, lt-leb (padded (c * 256 + e)) (length r) l) (omega arith)
+size-case a b c e r x q (no l) y f =
+    let m : padded (c * 256 + e) ≤ length r = omega arith in
+    let z : length (take (c * 256 + e) r) ≡ c * 256 + e = length-take-le (c * 256 + e) r (omega arith) in
+    rw (f, le-leb (padded (c * 256 + e)) (length r) m, z) (omega arith)
+
+-- the attributes and the rest are all the bytes
+pub sizes-rest : (k : ℕ) (s : List ℕ) → sizes (attrs (parse k s)) + length (rest (parse k s)) ≡ length s - k
+unfolding parse
+sizes-rest (suc k) [] = omega arith
+sizes-rest (suc k) (a ∷ r) = omega (arith, sizes-rest k r)
+sizes-rest zero [] = refl
+sizes-rest zero (a ∷ []) = refl
+sizes-rest zero (a ∷ b ∷ []) = refl
+sizes-rest zero (a ∷ b ∷ c ∷ []) = refl
+sizes-rest zero (a ∷ b ∷ c ∷ e ∷ r) =
+    omega (arith, size-case a b c e r (parse (padded (c * 256 + e)) r) (sizes-rest (padded (c * 256 + e)) r) (decLt _ _) _ refl)
+
+pub sizes-least : (xs : List Attr) → 4 * length xs ≤ sizes xs
+sizes-least [] = omega arith
+sizes-least (a ∷ xs) = omega (arith, sizes-least xs)
+
+-- following the walk from p to the end meets the attributes xs, in order
+pub data Visits (d : List ℕ) : ℕ → List Attr → Type 0 where
+  over : {p : ℕ} → walkAt d p ≡ End p → Visits d p []
+  meets : {p k v n x : ℕ} {xs : List Attr} → walkAt d p ≡ Attribute p k v n x → Visits d x xs → Visits d p (found d k v n x ∷ xs)
+
+module _ (d : List ℕ) (e : headerFault d ≡ 0) where
+  pub walk-is-step : (p : ℕ) → 20 ≤ p → walkAt d p ≡ stepAt d p
+  unfolding walkAt
+  walk-is-step p l = simp (eq-eqb (headerFault d) 0 e, le-ltb p 20 l)
+
+  -- nothing is left: the walk is at its end
+  at-end : (p : ℕ) (r : List ℕ) {w : Walk} → At d p w → 20 ≤ p → p ≤ length d → bodyOf d w ≡ stop r → r ≡ [] → Visits d p []
+  at-end p r (beyond h) i l f g = absurd (omega arith)
+  at-end p r (ended h) i l f g = over (walk-is-step p i ∙ sym (at-step (ended h)))
+  at-end p r (short h k) i l f g = let z : drop p d ≡ [] = cc in absurd (omega (arith, simp length-drop at (ap length z)))
+  at-end p r (long h k) i l f g = let z : drop p d ≡ [] = cc in absurd (omega (arith, simp length-drop at (ap length z)))
+  at-end p r (attribute h) i l f g = let z : _≡_ {A = ℕ} 0 1 = cc in absurd (omega arith)
+
+  -- there is an attribute: the walk is at it, and goes on to the others
+  at-attribute : (p : ℕ) (a : Attr) (b : Body) {w : Walk} → At d p w → 20 ≤ p → bodyOf d w ≡ more a b
+      → ((x : ℕ) → 20 ≤ x → x ≤ length d → parse 0 (drop x d) ≡ b → Visits d x (attrs b)) → Visits d p (a ∷ attrs b)
+  at-attribute p a b (beyond h) i f on = let z : _≡_ {A = ℕ} 0 1 = cc in absurd (omega arith)
+  at-attribute p a b (ended h) i f on = let z : _≡_ {A = ℕ} 0 1 = cc in absurd (omega arith)
+  at-attribute p a b (short h k) i f on = let z : _≡_ {A = ℕ} 0 1 = cc in absurd (omega arith)
+  at-attribute p a b (long h k) i f on = let z : _≡_ {A = ℕ} 0 1 = cc in absurd (omega arith)
+  at-attribute p a b (attribute h) i f on =
+      let n : ℕ = be16 d (p + 2) in
+      let x : ℕ = p + 4 + padded n in
+      let q : parse 0 (drop x d) ≡ b = cc in
+      let y : found d (be16 d p) (p + 4) n x ≡ a = cc in
+      rw y at (meets (walk-is-step p i ∙ sym (at-step (attribute h))) (on x (omega arith) h q))
+
+  from-place : (p : ℕ) (b : Body) → 20 ≤ p → p ≤ length d → parse 0 (drop p d) ≡ b → rest b ≡ [] → Visits d p (attrs b)
+  from-place p (stop r) i l f g = at-end p r (view d p) i l (sym (unroll (view d p)) ∙ f) g
+  from-place p (more a b) i l f g =
+      at-attribute p a b (view d p) i (sym (unroll (view d p)) ∙ f) (λ x j m q. from-place x b j m q g)
+
+  pub visits : rest (parse 0 (drop 20 d)) ≡ [] → Visits d 20 (attrs (parse 0 (drop 20 d)))
+  visits g = from-place 20 (parse 0 (drop 20 d)) (omega arith) (header.long d e) refl g
+
+-- and no others
+pub visits-one : {d : List ℕ} {p : ℕ} {xs ys : List Attr} → Visits d p xs → Visits d p ys → xs ≡ ys
+visits-one (over e) (over f) = refl
+visits-one (over e) (meets f w) = let z : _≡_ {A = ℕ} 0 1 = cc in absurd (omega arith)
+visits-one (meets e v) (over f) = let z : _≡_ {A = ℕ} 0 1 = cc in absurd (omega arith)
+visits-one {d} (meets {k = k} {v = u} {n = n} {x = x} e v) (meets {k = l} {v = t} {n = m} {x = y} {xs = zs} f w) =
+    let i : y ≡ x = cc in
+    let j : found d k u n x ≡ found d l t m y = cc in
+    ap₂ {C = List Attr} (λ a s. a ∷ s) j (visits-one v (subst (λ (z : ℕ). Visits d z zs) i w))
