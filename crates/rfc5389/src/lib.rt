@@ -3,6 +3,9 @@ ghost use mathlib.Core.Path.{_≡_};
 ghost use Rattle.rfc5389.specs.Rows.{look, rfc5389};
 ghost use Rattle.rfc5389.specs.Fault.{ruleOf, addressFault, codeFault, ruleFault, fault};
 
+pub mod errors;
+pub mod methods;
+
 pub struct Row {
     pub kind: u16,
     pub least: u16,

@@ -13,7 +13,7 @@ fn wide(b: u8) -> usize {
     b as usize
 }
 
-fn hex(s: &[u8]) {
+pub fn hex(s: &[u8]) {
     let mut i = 0;
     while i < s.len() {
         io::print_hex(STDOUT_FILENO, wide(s[i]) as u64, 2);

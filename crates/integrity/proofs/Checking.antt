@@ -1,0 +1,95 @@
+-- What `check_integrity` returns, case by case.
+use Prim.Native.Nat.{ℕ, _+_, _-_, _≤_, _<_}
+use mathlib.Core.List.{List}
+use mathlib.Core.Bool.{Bool, true, false}
+use mathlib.Core.Path.{_≡_, refl, sym, ap, ap₂, _∙_}
+use native.Mathlib.Omega.{arith}
+use borrow.Author.Tests.{ltb-false}
+use lib.ListN.{length, getD, take, drop}
+use lib.Dec.{ltb}
+use Rattle.base.specs.Choice.{pick}
+use Rattle.numbers.specs.Numbers.{be16}
+use Rattle.wire.specs.declared.method.Method.{Method}
+use Rattle.wire.specs.declared.types.MessageClass.{MessageClass}
+use Rattle.rfc5389.specs.Rows.{look, rfc5389}
+use Rattle.rfc5389.specs.Fault.{ruleOf, ruleFault, sizeFault, fault}
+use Rattle.message.specs.Reading.{readingOf, numberOf}
+use Rattle.message.specs.declared.Answer.{Answer}
+use Rattle.message.specs.declared.Answer.the-variants.{Whole, Broken, Refused}
+use Rattle.message.specs.declared.Reading.{Reading}
+use Rattle.value.specs.declared.First.{First}
+use Rattle.value.specs.declared.First.the-variants.{Found, Absent}
+use Rattle.value.specs.First.{starts, firstIn, wholeBy, isWhole, first, placed, valueOf}
+use Rattle.value.specs.FirstLaws.{Told, told, part-in, absent}
+use Rattle.value.specs.WholeLaws.{passes, sized, served}
+use Rattle.base.specs.Same.{same}
+use Rattle.numbers.specs.Numbers.{withLength}
+use Rattle.hmac.specs.Hmac.{hmacOf}
+use Rattle.integrity.specs.Integrity.{integrityAt, comparedAt, compared, integrityFault}
+
+-- a MESSAGE-INTEGRITY that passes has 20 bytes
+twenty : (v : List ℕ) → fault rfc5389 0x0008 v ≡ 0 → 20 ≤ length v
+unfolding fault look sizeFault
+twenty v e = go (ltb (length v) 20) refl e
+  where
+    go : (b : Bool) → ltb (length v) 20 ≡ b → pick b 11 (pick (ltb 20 (length v)) 11 (ruleFault (ruleOf 0x0008) v)) ≡ 0 → 20 ≤ length v
+    go true f g = absurd (omega arith)
+    go false f g = ltb-false (length v) 20 f
+
+module _ (d key : List ℕ) {r : Reading} (e : r ≡ readingOf rfc5389 d) where
+  by-answer : {a : Answer} → r .answer ≡ a → integrityFault rfc5389 d key ≡ pick (wholeBy a) (compared d key (firstIn 0x0008 d)) (numberOf a)
+  unfolding integrityFault isWhole
+  by-answer f = ap (λ (x : Answer). pick (wholeBy x) (compared d key (firstIn 0x0008 d)) (numberOf x)) (sym (ap (λ (x : Reading). x .answer) e) ∙ f)
+
+  pub refused : {n : ℕ} → r .answer ≡ Refused n → n ≡ integrityFault rfc5389 d key
+  unfolding numberOf
+  refused g = sym (by-answer g)
+
+  pub broken : {c : MessageClass} {m : Method} {n p : ℕ} → r .answer ≡ Broken c m n p → n ≡ integrityFault rfc5389 d key
+  unfolding numberOf
+  broken g = sym (by-answer g)
+
+  module _ {c : MessageClass} {m : Method} {n : ℕ} (g : r .answer ≡ Whole c m n) {f : First} (h : f ≡ placed (firstIn 0x0008 d)) where
+    pub missing : f ≡ Absent → 31 ≡ integrityFault rfc5389 d key
+    unfolding compared
+    missing i = sym (by-answer g ∙ ap (compared d key) (absent (firstIn 0x0008 d) h i))
+
+    module _ {p k : ℕ} (i : f ≡ Found p k) where
+      pub compares : {t : ℕ} → t ≡ comparedAt d key p (take k (drop (p + 4) d)) → t ≡ integrityFault rfc5389 d key
+      unfolding compared valueOf
+      compares j =
+          let t : Told (firstIn 0x0008 d) p k = told (firstIn 0x0008 d) h i in
+          let v : take k (drop (p + 4) d) ≡ t .attr .value = part-in d 0x0008 h i .value ∙ ap valueOf (t .is) in
+          j ∙ ap (comparedAt d key p) v ∙ sym (by-answer g ∙ ap (compared d key) (t .is))
+
+      pub low : 20 ≤ p
+      low = part-in d 0x0008 h i .low
+
+      pub room : p + 4 + k ≤ length d
+      room = part-in d 0x0008 h i .inside
+
+-- the adjusted length ends with the attribute, and so within the body
+module _ (d : List ℕ) (bs : (j : ℕ) → getD d j 0 < 256) {r : Reading} {c : MessageClass} {m : Method} {f : First} {n p k : ℕ} where
+  pub fits : r ≡ readingOf rfc5389 d → r .answer ≡ Whole c m n → f ≡ placed (firstIn 0x0008 d) → f ≡ Found p k → p - 20 + 24 ≤ 65535
+  unfolding be16 isWhole first
+  fits e g h i =
+      let w : isWhole rfc5389 d ≡ true = ap (λ (x : Answer). wholeBy x) (sym (ap (λ (x : Reading). x .answer) e) ∙ g) in
+      let t : Told (firstIn 0x0008 d) p k = told (firstIn 0x0008 d) h i in
+      let u : first rfc5389 0x0008 d ≡ starts p (t .attr) = rw w (t .is) in
+      omega
+      (arith, twenty (t .attr .value) (served rfc5389 0x0008 d u), t .size, part-in d 0x0008 h i, sized d (passes rfc5389 d w .header), bs 2, bs 3)
+
+-- the digest that code has made is compared
+module _ (d key : List ℕ) (p k : ℕ) {m : List ℕ} {b : Bool} (e : m ≡ hmacOf key (withLength (take p d) (p - 20 + 24)))
+    (f : b ≡ same m (take (p + 4 + k - (p + 4)) (drop (p + 4) d))) where
+  by-digest : {t : ℕ} → pick b 0 32 ≡ t → t ≡ comparedAt d key p (take k (drop (p + 4) d))
+  unfolding comparedAt integrityAt
+  by-digest g =
+      let n : p + 4 + k - (p + 4) ≡ k = omega arith in
+      sym g ∙ ap (λ (x : Bool). pick x 0 32) (f ∙ ap₂ (λ (x : List ℕ) (y : ℕ). same x (take y (drop (p + 4) d))) e n)
+
+  pub right : b ≡ true → 0 ≡ comparedAt d key p (take k (drop (p + 4) d))
+  right g = by-digest (rw g)
+
+  pub wrong : b ≡ false → 32 ≡ comparedAt d key p (take k (drop (p + 4) d))
+  wrong g = by-digest (rw g)

@@ -1,0 +1,2 @@
+mod Checking
+mod Determined

@@ -1,0 +1,28 @@
+-- MESSAGE-INTEGRITY (RFC 5389 section 15.4; docs/SCOPE.md, "MESSAGE-INTEGRITY", "Checking integrity").
+use Prim.Native.Nat.{ℕ, _+_, _-_}
+use mathlib.Core.List.{List}
+use lib.ListN.{take}
+use Rattle.base.specs.Choice.{pick}
+use Rattle.rfc5389.specs.declared.Row.{Row}
+use Rattle.message.specs.Reading.{readingOf, numberOf}
+use Rattle.value.specs.First.{Place, none, starts, firstIn, isWhole}
+use Rattle.base.specs.Same.{same}
+use Rattle.numbers.specs.Numbers.{withLength}
+use Rattle.hmac.specs.Hmac.{hmacOf}
+
+-- the digest of the bytes before p, with p - 20 + 24 in the length field
+unfoldable pub integrityAt : List ℕ → List ℕ → ℕ → List ℕ
+integrityAt key d p = hmacOf key (withLength (take p d) (p - 20 + 24))
+
+-- 32 where the value v of a MESSAGE-INTEGRITY at p differs
+unfoldable pub comparedAt : List ℕ → List ℕ → ℕ → List ℕ → ℕ
+comparedAt d key p v = pick (same (integrityAt key d p) v) 0 32
+
+-- 31 where there is none
+unfoldable pub compared : List ℕ → List ℕ → Place → ℕ
+compared d key none = 31
+compared d key (starts p a) = comparedAt d key p (a .value)
+
+-- the reader's number where the datagram is not whole
+unfoldable pub integrityFault : List Row → List ℕ → List ℕ → ℕ
+integrityFault rows d key = pick (isWhole rows d) (compared d key (firstIn 0x0008 d)) (numberOf (readingOf rows d .answer))

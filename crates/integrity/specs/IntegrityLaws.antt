@@ -1,0 +1,43 @@
+-- What 0 says: the datagram is whole, and the value of its first MESSAGE-INTEGRITY is the digest of the bytes before it. And only then is it told.
+use Prim.Native.Nat.{ℕ}
+use mathlib.Core.List.{List}
+use mathlib.Core.Bool.{Bool, true, false}
+use mathlib.Core.Path.{_≡_, refl, sym, _∙_}
+use native.Mathlib.Omega.{arith}
+use Rattle.base.specs.Choice.{pick}
+use Rattle.attribute.specs.Attribute.{Attr}
+use Rattle.rfc5389.specs.declared.Row.{Row}
+use Rattle.message.specs.Reading.{readingOf, numberOf}
+use Rattle.value.specs.First.{Place, none, starts, firstIn, isWhole}
+use Rattle.value.specs.WholeLaws.{number-whole}
+use Rattle.base.specs.Same.{same, same-eq, same-refl}
+use Rattle.integrity.specs.Integrity.{integrityAt, comparedAt, compared, integrityFault}
+
+pub record Signed (rows : List Row) (d key : List ℕ) : Type 0 where
+  pub whole : isWhole rows d ≡ true
+  pub place : ℕ
+  pub attr : Attr
+  pub there : firstIn 0x0008 d ≡ starts place attr
+  pub value : integrityAt key d place ≡ attr .value
+
+-- 0 is told of what is signed, over the list of types
+pub signed-0 : {rows : List Row} {d key : List ℕ} → Signed rows d key → integrityFault rows d key ≡ 0
+unfolding integrityFault compared comparedAt
+signed-0 {rows} {d} {key} s = rw (s .whole, s .there, s .value, same-refl (s .attr .value))
+
+-- and of nothing else
+pub only-signed : (rows : List Row) (d key : List ℕ) → integrityFault rows d key ≡ 0 → Signed rows d key
+unfolding integrityFault compared comparedAt
+only-signed rows d key e = go (isWhole rows d) refl e
+  where
+    found : (x : Place) → isWhole rows d ≡ true → firstIn 0x0008 d ≡ x → compared d key x ≡ 0 → Signed rows d key
+    found none w f h = absurd (omega arith)
+    found (starts p a) w f h = same-value (same (integrityAt key d p) (a .value)) refl h
+      where
+        same-value : (b : Bool) → same (integrityAt key d p) (a .value) ≡ b → _≡_ {A = ℕ} (pick b 0 32) 0 → Signed rows d key
+        same-value true g i = record { whole = w; place = p; attr = a; there = f; value = same-eq (integrityAt key d p) (a .value) g }
+        same-value false g i = absurd (omega arith)
+
+    go : (b : Bool) → isWhole rows d ≡ b → pick b (compared d key (firstIn 0x0008 d)) (numberOf (readingOf rows d .answer)) ≡ 0 → Signed rows d key
+    go true w h = found (firstIn 0x0008 d) w refl h
+    go false w h = let z : false ≡ true = sym w ∙ number-whole rows d h in let y : _≡_ {A = ℕ} 0 1 = cc in absurd (omega arith)

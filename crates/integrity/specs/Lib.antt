@@ -1,0 +1,2 @@
+pub mod Integrity
+pub mod IntegrityLaws

@@ -1,0 +1,2 @@
+mod Choosing
+mod Determined

@@ -1,0 +1,81 @@
+-- What the calls return, case by case.
+use Prim.Native.Nat.{ℕ, _+_, _*_, _-_, _%_, _≤_, _<_}
+use mathlib.Core.List.{List, []}
+use mathlib.Core.Path.{_≡_, sym, ap, ap₂, _∙_}
+use native.Mathlib.Omega.{arith}
+use borrow.Author.Tests.{eq-eqb, ne-eqb}
+use lib.ListN.{length, getD, take, drop, replicate, length-drop, drop-of-length-le, List·getD-eq-default}
+use lib.Seq.{take-all}
+use Rattle.base.specs.Laid.{laid}
+use Rattle.numbers.specs.Numbers.{fitsAt, put}
+use Rattle.wire.specs.declared.transaction_id.TransactionId.{TransactionId}
+use Rattle.net.specs.Net.{addrXor}
+use Rattle.net.specs.declared.Family.the-variants.{Ipv4, Ipv6}
+use Rattle.net.specs.declared.SocketAddr.{SocketAddr}
+use Rattle.rfc5389.specs.Rows.{rfc5389}
+use Rattle.rfc5389.specs.Fault.{ruleOf, fault}
+use Rattle.rfc5389.specs.declared.Rule.{Rule}
+use Rattle.rfc5389.specs.declared.Rule.the-variants as rule
+use Rattle.typed.specs.declared.Value.the-variants.{Address, Code, Plain, Refused}
+use Rattle.typed.specs.declared.Typed.{Typed}
+use Rattle.typed.specs.Typed.{familyNumbered, ipOf, codeOf, addressOf, without, saidBy, plainOf, readOf, typedOf}
+
+pub no-byte : (v : List ℕ) (i : ℕ) → length v ≤ i → 0 ≡ getD v i 0
+no-byte v i h = sym (List·getD-eq-default v 0 {n = i} h)
+
+pub family-1 : (n : ℕ) → n ≡ 1 → Ipv4 ≡ familyNumbered n
+family-1 n e = simp (eq-eqb n 1 e)
+
+pub family-2 : (n : ℕ) → (n ≡ 1 → ⊥) → Ipv6 ≡ familyNumbered n
+family-2 n e = simp (ne-eqb n 1 e)
+
+pub no-ip : (v : List ℕ) → length v < 4 → replicate 16 0 ≡ ipOf v
+unfolding ipOf put fitsAt laid
+no-ip v h = let e : drop 4 v ≡ [] = drop-of-length-le v {i = 4} (omega arith) in rw e
+
+pub ip : (v : List ℕ) {m : List ℕ} → 4 ≤ length v → m ≡ put (replicate 16 0) 0 (take (length v - 4) (drop 4 v)) → m ≡ ipOf v
+unfolding ipOf
+ip v h e =
+    let t : take (length v - 4) (drop 4 v) ≡ drop 4 v = take-all (length v - 4) (drop 4 v) (simp length-drop (omega arith)) in
+    e ∙ ap (put (replicate 16 0) 0) t
+
+module _ (k : ℕ) (a : SocketAddr) (id : TransactionId) where
+  pub plain-xor : {r : SocketAddr} → k ≡ 0x0020 → r ≡ addrXor a id → r ≡ plainOf k a id
+  unfolding plainOf
+  plain-xor e f = simp (eq-eqb k 0x0020 e) f
+
+  pub plain-other : (k ≡ 0x0020 → ⊥) → a ≡ plainOf k a id
+  unfolding plainOf
+  plain-other e = simp (ne-eqb k 0x0020 e)
+
+module _ (k : ℕ) (v : List ℕ) {f : ℕ} (e : f ≡ fault rfc5389 k v) where
+  pub faulty : (id : TransactionId) {r : Typed} → (f ≡ 0 → ⊥) → r ≡ without (Refused f) → r ≡ typedOf rfc5389 k v id
+  unfolding typedOf
+  faulty id n g =
+      let m : fault rfc5389 k v ≡ 0 → ⊥ = λ z. n (e ∙ z) in
+      simp (ne-eqb (fault rfc5389 k v) 0 m) (g ∙ ap (λ (x : ℕ). without (Refused x)) e)
+
+  module _ (z : f ≡ 0) {q : Rule} (g : q ≡ ruleOf k) where
+    by-rule : (id : TransactionId) {r : Typed} → r ≡ readOf q k v id → r ≡ typedOf rfc5389 k v id
+    unfolding typedOf
+    by-rule id h = simp (eq-eqb (fault rfc5389 k v) 0 (sym e ∙ z)) (h ∙ ap (λ (x : Rule). readOf x k v id) g)
+
+    pub address : (id : TransactionId) {a b : SocketAddr} {r : Typed} → q ≡ rule.Address → a ≡ addressOf v → b ≡ plainOf k a id → r ≡ saidBy b → r ≡ typedOf rfc5389 k v id
+    unfolding readOf
+    address id i m n o = by-rule id (rw i (o ∙ ap saidBy (n ∙ ap (λ (x : SocketAddr). plainOf k x id) m)))
+
+    pub code : (id : TransactionId) {x y : ℕ} {r : Typed} → q ≡ rule.Code → x ≡ getD v 2 0 → y ≡ getD v 3 0 → r ≡ without (Code (x % 8 * 100 + y)) → r ≡ typedOf rfc5389 k v id
+    unfolding readOf codeOf
+    code id i m n o = by-rule id (rw i (o ∙ ap₂ (λ (a b : ℕ). without (Code (a % 8 * 100 + b))) m n))
+
+    pub text : (id : TransactionId) {r : Typed} → q ≡ rule.Text → r ≡ without Plain → r ≡ typedOf rfc5389 k v id
+    unfolding readOf
+    text id i o = by-rule id (rw i o)
+
+    pub types : (id : TransactionId) {r : Typed} → q ≡ rule.Types → r ≡ without Plain → r ≡ typedOf rfc5389 k v id
+    unfolding readOf
+    types id i o = by-rule id (rw i o)
+
+    pub plain : (id : TransactionId) {r : Typed} → q ≡ rule.Plain → r ≡ without Plain → r ≡ typedOf rfc5389 k v id
+    unfolding readOf
+    plain id i o = by-rule id (rw i o)

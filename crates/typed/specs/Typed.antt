@@ -1,0 +1,92 @@
+-- Typed reading: what a value says, by its type (RFC 5389 sections 15.1, 15.2 and 15.6; docs/SCOPE.md, "Typed reading").
+use Prim.Native.Nat.{ℕ, _+_, _*_, _%_}
+use mathlib.Core.List.{List, []}
+use lib.ListN.{getD, drop, replicate}
+use lib.Dec.{eqb}
+use Rattle.base.specs.Choice.{pick}
+use Rattle.numbers.specs.Numbers.{be16, put}
+use Rattle.wire.specs.declared.transaction_id.TransactionId.{TransactionId}
+use Rattle.net.specs.Net.{familyNumber, addrXor}
+use Rattle.net.specs.declared.Family.{Family}
+use Rattle.net.specs.declared.Family.the-variants.{Ipv4, Ipv6}
+use Rattle.net.specs.declared.SocketAddr.{SocketAddr}
+use Rattle.rfc5389.specs.Fault.{ruleOf, fault}
+use Rattle.rfc5389.specs.declared.Row.{Row}
+use Rattle.rfc5389.specs.declared.Rule.{Rule}
+use Rattle.rfc5389.specs.declared.Rule.the-variants as rule
+use Rattle.typed.specs.declared.Value.{Value}
+use Rattle.typed.specs.declared.Value.the-variants.{Address, Code, Plain, Refused}
+use Rattle.typed.specs.declared.Typed.{Typed}
+
+abbrev pub familyNumbered : ℕ → Family
+familyNumbered n = pick (eqb n 1) Ipv4 Ipv6
+
+-- the IP stands at the front of 16 bytes, with noughts behind it
+unfoldable pub ipOf : List ℕ → List ℕ
+ipOf v = put (replicate 16 0) 0 (drop 4 v)
+
+-- byte 1 the family, bytes 2 and 3 the port, and from byte 4 on the IP
+unfoldable pub addressOf : List ℕ → SocketAddr
+addressOf v = record { family = familyNumbered (getD v 1 0); port = be16 v 2; ip = ipOf v }
+
+-- the lower three bits of byte 2 are the class and byte 3 is the number
+unfoldable pub codeOf : List ℕ → ℕ
+codeOf v = getD v 2 0 % 8 * 100 + getD v 3 0
+
+-- a value and no IP, and an address
+abbrev pub without : Value → Typed
+without x = record { value = x; ip = replicate 16 0 }
+
+unfoldable pub saidBy : SocketAddr → Typed
+saidBy a = record { value = Address (a .family) (a .port); ip = a .ip }
+
+-- the address of a type: XOR-MAPPED-ADDRESS is in XOR form, which is undone
+unfoldable pub plainOf : ℕ → SocketAddr → TransactionId → SocketAddr
+plainOf k a id = pick (eqb k 0x0020) (addrXor a id) a
+
+-- what a value without fault says, by the rule of its type
+unfoldable pub readOf : Rule → ℕ → List ℕ → TransactionId → Typed
+readOf rule.Address k v id = saidBy (plainOf k (addressOf v) id)
+readOf rule.Code k v id = without (Code (codeOf v))
+readOf rule.Text k v id = without Plain
+readOf rule.Types k v id = without Plain
+readOf rule.Plain k v id = without Plain
+
+-- a value at fault says 11 to 14, and all else is nought
+unfoldable pub typedOf : List Row → ℕ → List ℕ → TransactionId → Typed
+typedOf rows k v id = pick (eqb (fault rows k v) 0) (readOf (ruleOf k) k v id) (without (Refused (fault rows k v)))
+
+-- the part of the value that goes with it: the phrase of an ERROR-CODE, nothing of an address, and else the value itself
+unfoldable pub partBy : Rule → List ℕ → List ℕ
+partBy rule.Address v = []
+partBy rule.Code v = drop 4 v
+partBy rule.Text v = v
+partBy rule.Types v = v
+partBy rule.Plain v = v
+
+unfoldable pub partOf : List Row → ℕ → List ℕ → List ℕ
+partOf rows k v = pick (eqb (fault rows k v) 0) (partBy (ruleOf k) v) []
+
+-- where it starts in the value
+unfoldable pub startBy : Rule → ℕ
+startBy rule.Address = 0
+startBy rule.Code = 4
+startBy rule.Text = 0
+startBy rule.Types = 0
+startBy rule.Plain = 0
+
+unfoldable pub partAt : List Row → ℕ → List ℕ → ℕ
+partAt rows k v = pick (eqb (fault rows k v) 0) (startBy (ruleOf k)) 0
+
+-- what each answer says, in numbers: the number (0 where it is none of 11 to 14), family, port and code; all else nought
+unfoldable pub numberOf : Value → ℕ
+numberOf (Address f p) = 0
+numberOf (Code c) = 0
+numberOf Plain = 0
+numberOf (Refused n) = n
+
+unfoldable pub valuesOf : Value → ℕ × ℕ × ℕ
+valuesOf (Address f p) = (familyNumber f, p, 0)
+valuesOf (Code c) = (0, 0, c)
+valuesOf Plain = (0, 0, 0)
+valuesOf (Refused n) = (0, 0, 0)

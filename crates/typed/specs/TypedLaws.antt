@@ -1,0 +1,54 @@
+-- What typed reading says, in numbers: just the fault of the value; and where there is one, nothing else.
+use Prim.Native.Nat.{ℕ}
+use mathlib.Core.List.{List, []}
+use mathlib.Core.Bool.{Bool, true, false}
+use mathlib.Core.Path.{_≡_, refl, sym, _∙_}
+use borrow.Author.Tests.{eqb-true, eq-eqb, ne-eqb}
+use lib.Dec.{eqb}
+use Rattle.base.specs.Choice.{pick}
+use Rattle.wire.specs.declared.transaction_id.TransactionId.{TransactionId}
+use Rattle.rfc5389.specs.Fault.{ruleOf, fault}
+use Rattle.rfc5389.specs.declared.Row.{Row}
+use Rattle.rfc5389.specs.declared.Rule.{Rule}
+use Rattle.rfc5389.specs.declared.Rule.the-variants.{Address, Text, Code, Types, Plain}
+use Rattle.typed.specs.declared.Value.the-variants.{Refused}
+use Rattle.typed.specs.Typed.{without, saidBy, readOf, typedOf, partBy, partOf, numberOf}
+
+-- a value without fault is read
+read-number : (q : Rule) (k : ℕ) (v : List ℕ) (id : TransactionId) → numberOf (readOf q k v id .value) ≡ 0
+unfolding readOf numberOf saidBy
+read-number Address k v id = refl
+read-number Text k v id = refl
+read-number Code k v id = refl
+read-number Types k v id = refl
+read-number Plain k v id = refl
+
+-- the number is the reader's own, over the list of types
+pub typed-number : (rows : List Row) (k : ℕ) (v : List ℕ) (id : TransactionId) → numberOf (typedOf rows k v id .value) ≡ fault rows k v
+unfolding typedOf numberOf
+typed-number rows k v id = go (eqb (fault rows k v) 0) refl
+  where
+    go : (b : Bool) → eqb (fault rows k v) 0 ≡ b
+        → numberOf (pick b (readOf (ruleOf k) k v id) (without (Refused (fault rows k v))) .value) ≡ fault rows k v
+    go true e = read-number (ruleOf k) k v id ∙ sym (eqb-true (fault rows k v) 0 e)
+    go false e = refl
+
+-- of a value at fault all fields are nought and the part is empty
+module _ (rows : List Row) (k : ℕ) (v : List ℕ) (n : fault rows k v ≡ 0 → ⊥) where
+  pub no-fields : (id : TransactionId) → typedOf rows k v id ≡ without (Refused (fault rows k v))
+  unfolding typedOf
+  no-fields id = simp (ne-eqb (fault rows k v) 0 n)
+
+  pub no-part : partOf rows k v ≡ []
+  unfolding partOf
+  no-part = simp (ne-eqb (fault rows k v) 0 n)
+
+-- and one without is read by the rule of its type
+module _ (rows : List Row) (k : ℕ) (v : List ℕ) (z : fault rows k v ≡ 0) where
+  pub fields : (id : TransactionId) → typedOf rows k v id ≡ readOf (ruleOf k) k v id
+  unfolding typedOf
+  fields id = simp (eq-eqb (fault rows k v) 0 z)
+
+  pub part : partOf rows k v ≡ partBy (ruleOf k) v
+  unfolding partOf
+  part = simp (eq-eqb (fault rows k v) 0 z)

@@ -1,0 +1,3 @@
+mod Searching
+mod Finding
+mod Determined

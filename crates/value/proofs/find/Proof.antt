@@ -1,0 +1,26 @@
+use Rattle.value.proofs.Finding.{whole, broken, refused}
+use borrow.Author.Needs.{needs}
+use Rattle.value.proofs.find.Statement.{statement}
+use Rattle.value.proofs.find.Tie as tie
+
+returns : tie.Need-returns
+returns c = search (whole, broken, refused)
+
+returns-2 : tie.Need-returns-2
+returns-2 c = search (whole, broken, refused)
+
+returns-3 : tie.Need-returns-3
+returns-3 c = search (whole, broken, refused)
+
+pub find-spec : {M : Type 1} → statement M
+find-spec =
+    tie.close
+    (tie.spec
+    (λ c κs. search needs)
+    (λ c. search needs)
+    (λ c κs. search needs)
+    (λ c. search needs)
+    (λ c. search needs)
+    returns
+    returns-2
+    returns-3)

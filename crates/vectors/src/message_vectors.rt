@@ -1,0 +1,269 @@
+// RFC 5769's messages: read, checked under their keys and under a key with one bit changed, their addresses and realms.
+use crate::utf8_vectors::hex;
+use integrity::check_integrity;
+use libc::STDOUT_FILENO;
+use message::Answer;
+use realm::realm_to_use;
+use rfc5389::errors::BadRequest;
+use rfc5389::errors::ServerError;
+use rfc5389::errors::StaleNonce;
+use rfc5389::errors::TryAlternate;
+use rfc5389::errors::Unauthorized;
+use rfc5389::errors::UnknownAttribute;
+use rfc5389::methods::BINDING;
+use typed::Value;
+use typed::XOR_MAPPED_ADDRESS;
+
+fn put(s: &[u8]) {
+    io::write_all(STDOUT_FILENO, s);
+}
+
+fn number(n: usize) {
+    put(b" ");
+    io::print_decimal(STDOUT_FILENO, n as u64);
+}
+
+fn name(section: &[u8], what: &[u8]) {
+    put(b"message ");
+    put(section);
+    put(what);
+}
+
+// The reader's answer.
+fn read(section: &[u8], d: &[u8]) {
+    let r = message::read(d);
+    let answer = r.answer;
+    match answer {
+        Answer::Whole {
+            class,
+            method,
+            count,
+        } => {
+            name(section, b" whole");
+            number(class.as_u16() as usize);
+            number(method.code as usize);
+            number(count);
+            put(b" ");
+            let id = r.id.bytes;
+            hex(&id);
+        }
+        Answer::Broken {
+            class: _,
+            method: _,
+            reason,
+            place,
+        } => {
+            name(section, b" broken");
+            number(reason as usize);
+            number(place);
+        }
+        Answer::Refused { number: n } => {
+            name(section, b" refused");
+            number(n as usize);
+        }
+    }
+    put(b"\n");
+}
+
+fn checked(section: &[u8], what: &[u8], d: &[u8], key: &[u8]) {
+    name(section, what);
+    number(check_integrity(d, key) as usize);
+    put(b"\n");
+}
+
+// A datagram with FINGERPRINT is whole only where that is right.
+fn fingerprint(section: &[u8], d: &[u8]) {
+    name(section, b"_fingerprint");
+    if value::has(d, 0x8028) {
+        put(b" yes\n");
+    } else {
+        put(b" no\n");
+    }
+}
+
+fn realm<'a>(section: &[u8], d: &'a [u8], site: &'a [u8]) {
+    name(section, b"_realm ");
+    put(realm_to_use(d, site));
+    put(b"\n");
+}
+
+// XOR-MAPPED-ADDRESS: family, port and IP.
+fn address(section: &[u8], d: &[u8]) {
+    let r = message::read(d);
+    let id = r.id;
+    let t = typed::value_of(
+        XOR_MAPPED_ADDRESS,
+        value::first_value(d, XOR_MAPPED_ADDRESS),
+        id,
+    );
+    let v = t.value;
+    let ip = t.ip;
+    if let Value::Address { family, port } = v {
+        name(section, b"_address");
+        number(family.as_u8() as usize);
+        number(port as usize);
+        put(b" ");
+        hex(&ip);
+        put(b"\n");
+    }
+}
+
+fn message<'a>(section: &[u8], d: &'a [u8], key: &[u8], other: &[u8], site: &'a [u8]) {
+    read(section, d);
+    checked(section, b"_integrity", d, key);
+    checked(section, b"_other_key", d, other);
+    fingerprint(section, d);
+    realm(section, d, site);
+    address(section, d);
+}
+
+fn request() {
+    message(
+        b"2.1",
+        b"\x00\x01\x00X!\x12\xA4B\xB7\xE7\xA7\x01\xBC4\xD6\x86\xFA\x87\xDF\xAE\x80\x22\x00\x10STUN\
+        \x20test client\x00$\x00\x04n\x00\x01\xFF\x80)\x00\x08\x93/\xF9\xB1Q&;6\x00\x06\x00\x09e\
+        vtj:h6vY   \x00\x08\x00\x14\x9A\xEA\xA7\x0C\xBF\xD8\xCBVx\x1E\xF2\xB5\xB2\xD3\xF2I\xC1\
+        \xB5q\xA2\x80(\x00\x04\xE5z;\xCF",
+        b"VOkJxbRl1RmTxUk/WvJxBt",
+        b"WOkJxbRl1RmTxUk/WvJxBt",
+        b"configured",
+    );
+}
+
+fn ipv4_response() {
+    message(
+        b"2.2",
+        b"\x01\x01\x00<!\x12\xA4B\xB7\xE7\xA7\x01\xBC4\xD6\x86\xFA\x87\xDF\xAE\x80\x22\x00\x0Btest\
+        \x20vector \x00 \x00\x08\x00\x01\xA1G\xE1\x12\xA6C\x00\x08\x00\x14+\x91\xF5\x99\xFD\x9E\
+        \x90\xC3\x8Ct\x89\xF9*\xF9\xBAS\xF0k\xE7\xD7\x80(\x00\x04\xC0}L\x96",
+        b"VOkJxbRl1RmTxUk/WvJxBt",
+        b"WOkJxbRl1RmTxUk/WvJxBt",
+        b"configured",
+    );
+}
+
+fn ipv6_response() {
+    message(
+        b"2.3",
+        b"\x01\x01\x00H!\x12\xA4B\xB7\xE7\xA7\x01\xBC4\xD6\x86\xFA\x87\xDF\xAE\x80\x22\x00\x0Btest\
+        \x20vector \x00 \x00\x14\x00\x02\xA1G\x01\x13\xA9\xFA\xA5\xD3\xF1y\xBC%\xF4\xB5\xBE\xD2\
+        \xB9\xD9\x00\x08\x00\x14\xA3\x82\x95NK\xE6{\xF1\x17\x84\xC9|\x82\x92\xC2u\xBF\xE3\xEDA\
+        \x80(\x00\x04\xC8\xFB\x0BL",
+        b"VOkJxbRl1RmTxUk/WvJxBt",
+        b"WOkJxbRl1RmTxUk/WvJxBt",
+        b"configured",
+    );
+}
+
+fn long_term_request() {
+    message(
+        b"2.4",
+        b"\x00\x01\x00`!\x12\xA4Bx\xAD43\xC6\xADr\xC0)\xDAA.\x00\x06\x00\x12\xE3\x83\x9E\xE3\x83\
+        \x88\xE3\x83\xAA\xE3\x83\x83\xE3\x82\xAF\xE3\x82\xB9\x00\x00\x00\x15\x00\x1Cf//499k954d6\
+        OL34oL9FSTvy64sA\x00\x14\x00\x0Bexample.org\x00\x00\x08\x00\x14\xF6p$em\xD6J>\x02\xB8\
+        \xE0q.\x85\xC9\xA2\x8C\xA8\x96f",
+        b"\xE8\xCAz\xD5\x9D^\xB0Q\x8E1)\x11\xD2\xDA\xB2\xA9",
+        b"\xE9\xCAz\xD5\x9D^\xB0Q\x8E1)\x11\xD2\xDA\xB2\xA9",
+        b"configured",
+    );
+}
+
+// 2.1 with one bit of its FINGERPRINT changed, and a message without MESSAGE-INTEGRITY.
+fn refusals() {
+    let changed =
+        b"\x00\x01\x00X!\x12\xA4B\xB7\xE7\xA7\x01\xBC4\xD6\x86\xFA\x87\xDF\xAE\x80\x22\x00\x10STUN\
+        \x20test client\x00$\x00\x04n\x00\x01\xFF\x80)\x00\x08\x93/\xF9\xB1Q&;6\x00\x06\x00\x09e\
+        vtj:h6vY   \x00\x08\x00\x14\x9A\xEA\xA7\x0C\xBF\xD8\xCBVx\x1E\xF2\xB5\xB2\xD3\xF2I\xC1\
+        \xB5q\xA2\x80(\x00\x04\xE5z;\xCE";
+    read(b"fingerprint_changed", changed);
+    checked(
+        b"fingerprint_changed",
+        b"_integrity",
+        changed,
+        b"VOkJxbRl1RmTxUk/WvJxBt",
+    );
+    checked(
+        b"no_integrity",
+        b"",
+        b"\x00\x01\x00\x00!\x12\xA4B\x00\x01\x02\x03\x04\x05\x06\x07\x08\x09\x0A\x0B",
+        b"key",
+    );
+}
+
+// Keys of 0, 64 and 65 bytes, 0, 1, 2 and so on. The digests are those of Python's hmac.
+fn keys() {
+    let d =
+        b"\x00\x01\x00\x18!\x12\xA4B\x00\x01\x02\x03\x04\x05\x06\x07\x08\x09\x0A\x0B\x00\x08\x00\
+        \x14\x22,\xCE\xE8b<\xF3\x01\xE1\xD2\xF8\x9AE\x16&,\x0Fn\xB9~";
+    checked(b"key_0", b"", d, b"");
+    checked(b"key_0", b"_other", d, b"\x01");
+    let d =
+        b"\x00\x01\x00\x18!\x12\xA4B\x00\x01\x02\x03\x04\x05\x06\x07\x08\x09\x0A\x0B\x00\x08\x00\
+        \x14$\x99\xF3^\x84F;o[\xA5\xEC\x1C:\xD8\x0A\x80\xCD\xDD\xE2\xEC";
+    checked(
+        b"key_64",
+        b"",
+        d,
+        b"\x00\x01\x02\x03\x04\x05\x06\x07\x08\x09\x0A\x0B\x0C\x0D\x0E\x0F\x10\x11\x12\x13\x14\x15\
+        \x16\x17\x18\x19\x1A\x1B\x1C\x1D\x1E\x1F !\x22#$%&'()*+,-./0123456789:;<=>?",
+    );
+    checked(
+        b"key_64",
+        b"_other",
+        d,
+        b"\x00\x01\x02\x03\x04\x05\x06\x07\x08\x09\x0A\x0B\x0C\x0D\x0E\x0F\x10\x11\x12\x13\x14\x15\
+        \x16\x17\x18\x19\x1A\x1B\x1C\x1D\x1E\x1F !\x22#$%&'()*+,-./0123456789:;<=>>",
+    );
+    let d =
+        b"\x00\x01\x00\x18!\x12\xA4B\x00\x01\x02\x03\x04\x05\x06\x07\x08\x09\x0A\x0B\x00\x08\x00\
+        \x14\x02\xA7\xD42\xEFBz\x0B59!\x7FNO\xEEwz\xBAt\xCE";
+    checked(
+        b"key_65",
+        b"",
+        d,
+        b"\x00\x01\x02\x03\x04\x05\x06\x07\x08\x09\x0A\x0B\x0C\x0D\x0E\x0F\x10\x11\x12\x13\x14\x15\
+        \x16\x17\x18\x19\x1A\x1B\x1C\x1D\x1E\x1F !\x22#$%&'()*+,-./0123456789:;<=>?@",
+    );
+    checked(
+        b"key_65",
+        b"_other",
+        d,
+        b"\x00\x01\x02\x03\x04\x05\x06\x07\x08\x09\x0A\x0B\x0C\x0D\x0E\x0F\x10\x11\x12\x13\x14\x15\
+        \x16\x17\x18\x19\x1A\x1B\x1C\x1D\x1E\x1F !\x22#$%&'()*+,-./0123456789:;<=>?A",
+    );
+}
+
+fn error(section: &[u8], code: u16, phrase: &[u8]) {
+    name(section, b"");
+    number(code as usize);
+    put(b" ");
+    put(phrase);
+    put(b"\n");
+}
+
+// The named error codes, and the method.
+fn named() {
+    error(b"error_300", TryAlternate::CODEPOINT, &TryAlternate::PHRASE);
+    error(b"error_400", BadRequest::CODEPOINT, &BadRequest::PHRASE);
+    error(b"error_401", Unauthorized::CODEPOINT, &Unauthorized::PHRASE);
+    error(
+        b"error_420",
+        UnknownAttribute::CODEPOINT,
+        &UnknownAttribute::PHRASE,
+    );
+    error(b"error_438", StaleNonce::CODEPOINT, &StaleNonce::PHRASE);
+    error(b"error_500", ServerError::CODEPOINT, &ServerError::PHRASE);
+    name(b"binding", b"");
+    number(BINDING.code as usize);
+    put(b"\n");
+}
+
+pub fn run() {
+    request();
+    ipv4_response();
+    ipv6_response();
+    long_term_request();
+    refusals();
+    keys();
+    named();
+}
