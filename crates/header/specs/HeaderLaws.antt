@@ -1,14 +1,17 @@
 -- What the answers of the header checks say, in numbers.
-use Prim.Native.Nat.{ℕ, _+_, _≤_}
+use Prim.Native.Nat.{ℕ, _+_, _-_, _≤_, _<_}
 use mathlib.Core.List.{List}
 use mathlib.Core.Bool.{Bool, true, false}
 use mathlib.Core.Path.{_≡_, refl, sym, ap, _∙_}
 use native.Mathlib.Omega.{arith}
-use borrow.Author.Tests.{eqb-true, eqb-false, ne-eqb, ltb-false}
-use lib.ListN.{length}
-use lib.Dec.{eqb, ltb}
+use borrow.Author.Tests.{eqb-true, eq-eqb, ne-eqb, ltb-false, leb-false, le-ltb}
+use lib.ListN.{length, take, drop, length-take}
+use lib.Seq.{getD-take, take-take}
+use lib.Dec.{eqb, ltb, leb}
 use Rattle.base.specs.Choice.{pick}
+use Rattle.base.specs.Lists.{drop-take}
 use Rattle.numbers.specs.Numbers.{be16}
+use Rattle.wire.specs.Cookie.{cookieAt}
 use Rattle.wire.specs.TypeNumber.{classOf, methodOf, classNumbered}
 use Rattle.wire.specs.declared.method.Method.{Method}
 use Rattle.wire.specs.declared.types.MessageClass.{MessageClass}
@@ -62,25 +65,72 @@ refused d {k} e =
     let n : headerFault d ≡ 0 → ⊥ = λ z. let y : _≡_ {A = ℕ} 0 1 = cc (ap (λ (n : ℕ). answer n d .head) z) in omega arith in
     record { number = f; some = n; answer = simp (ne-eqb (headerFault d) 0 n) (ap refusedBy f) }
 
--- a datagram that isn't refused has its header, and as many bytes as it says
-pub long : (d : List ℕ) → headerFault d ≡ 0 → 20 ≤ length d
-unfolding headerFault frontFault
-long d e = go (ltb (length d) 20) refl
+-- what the front of a buffer says where it has a header
+pub record Front (d : List ℕ) (b : ℕ) : Type 0 where
+  pub fault : frontFault d ≡ 0
+  pub body : b ≡ be16 d 2
+
+pub front-said : (d : List ℕ) {c : MessageClass} {m : Method} {b : ℕ} → frontOf d .head ≡ Good c m b → Front d b
+unfolding frontOf answer told numberOf
+front-said d {c} {m} {b} e =
+    let f : frontFault d ≡ 0 = sym (front-number d) ∙ ap numberOf e in
+    let g : told d .head ≡ Good c m b = sym (ap (λ (n : ℕ). answer n d .head) f) ∙ e in
+    record { fault = f; body = cc }
+
+pub front-refused : (d : List ℕ) {k : ℕ} → frontOf d .head ≡ Refused k → frontFault d ≡ 0 → ⊥
+unfolding frontOf answer told
+front-refused d {k} e z = let y : _≡_ {A = ℕ} 0 1 = cc (ap (λ (n : ℕ). answer n d .head) z) in omega arith
+
+-- and it is long enough for a header
+pub front-long : (d : List ℕ) → frontFault d ≡ 0 → 20 ≤ length d
+unfolding frontFault
+front-long d e = go (ltb (length d) 20) refl
   where
     go : (b : Bool) → ltb (length d) 20 ≡ b → 20 ≤ length d
     go true p = let z : _≡_ {A = ℕ} 1 0 = sym (rw p) ∙ e in absurd (omega arith)
     go false p = ltb-false (length d) 20 p
 
-pub sized : (d : List ℕ) → headerFault d ≡ 0 → length d ≡ 20 + be16 d 2
-unfolding headerFault
-sized d e = front (eqb (frontFault d) 0) refl
-  where
-    size : eqb (frontFault d) 0 ≡ true → (b : Bool) → eqb (length d) (20 + be16 d 2) ≡ b → length d ≡ 20 + be16 d 2
-    size p true q = eqb-true (length d) (20 + be16 d 2) q
-    size p false q = let z : _≡_ {A = ℕ} 4 0 = sym (rw (p, q)) ∙ e in absurd (omega arith)
+-- what it is that no check refuses
+pub record Checked (d : List ℕ) : Type 0 where
+  pub long : 20 ≤ length d
+  pub top : be16 d 0 < 16384
+  pub magic : cookieAt d 4 ≡ true
+  pub size : length d ≡ 20 + be16 d 2
 
-    front : (b : Bool) → eqb (frontFault d) 0 ≡ b → length d ≡ 20 + be16 d 2
-    front true p = size p (eqb (length d) (20 + be16 d 2)) refl
-    front false p =
-        let z : frontFault d ≡ 0 = sym (rw p) ∙ e in
-        absurd (eqb-false (frontFault d) 0 p z)
+pub checked : (d : List ℕ) → headerFault d ≡ 0 → Checked d
+unfolding headerFault frontFault
+checked d e = go (ltb (length d) 20) (leb 16384 (be16 d 0)) (cookieAt d 4) (eqb (length d) (20 + be16 d 2)) refl refl refl refl e
+  where
+    go : (a b c s : Bool) → ltb (length d) 20 ≡ a → leb 16384 (be16 d 0) ≡ b → cookieAt d 4 ≡ c → eqb (length d) (20 + be16 d 2) ≡ s
+        → _≡_ {A = ℕ} (pick (eqb (pick a 1 (pick b 2 (pick c 0 3))) 0) (pick s 0 4) (pick a 1 (pick b 2 (pick c 0 3)))) 0 → Checked d
+    go false false true true p q r s f =
+        record { long = ltb-false (length d) 20 p; top = leb-false 16384 (be16 d 0) q; magic = r; size = eqb-true (length d) (20 + be16 d 2) s }
+    go true b c x p q r s f = absurd (omega arith)
+    go false true c x p q r s f = absurd (omega arith)
+    go false false false x p q r s f = absurd (omega arith)
+    go false false true false p q r s f = absurd (omega arith)
+
+pub long : (d : List ℕ) → headerFault d ≡ 0 → 20 ≤ length d
+long d e = checked d e .long
+
+pub sized : (d : List ℕ) → headerFault d ≡ 0 → length d ≡ 20 + be16 d 2
+sized d e = checked d e .size
+
+pub unrefused : (d : List ℕ) → frontFault d ≡ 0 → length d ≡ 20 + be16 d 2 → headerFault d ≡ 0
+unfolding headerFault
+unrefused d f s = simp (eq-eqb (frontFault d) 0 f, eq-eqb (length d) (20 + be16 d 2) s)
+
+-- a header at the front that no check refuses, and the same of a shorter buffer that still has the header
+module _ (d : List ℕ) (f : frontFault d ≡ 0) (n : ℕ) (h : 20 ≤ n) (l : n ≤ length d) where
+  pub take-be16 : (p : ℕ) → p + 2 ≤ n → be16 (take n d) p ≡ be16 d p
+  unfolding be16
+  take-be16 p k = rw (getD-take n d p 0 (omega arith), getD-take n d (p + 1) 0 (omega arith))
+
+  pub take-front : frontFault (take n d) ≡ 0
+  unfolding frontFault cookieAt
+  take-front =
+      let s : take 4 (drop 4 (take n d)) ≡ take 4 (drop 4 d) = ap (take 4) (drop-take 4 n d) ∙ take-take 4 (n - 4) (drop 4 d) (omega arith) in
+      let a : ltb (length (take n d)) 20 ≡ ltb (length d) 20 =
+      le-ltb (length (take n d)) 20 (simp length-take (omega arith)) ∙ sym (le-ltb (length d) 20 (omega arith))
+      in
+      rw (a, take-be16 0 (omega arith), s) f

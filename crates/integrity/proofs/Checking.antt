@@ -21,7 +21,8 @@ use Rattle.value.specs.declared.First.{First}
 use Rattle.value.specs.declared.First.the-variants.{Found, Absent}
 use Rattle.value.specs.First.{starts, firstIn, wholeBy, isWhole, first, placed, valueOf}
 use Rattle.value.specs.FirstLaws.{Told, told, part-in, absent}
-use Rattle.value.specs.WholeLaws.{passes, sized, served}
+use Rattle.header.specs.HeaderLaws.{sized}
+use Rattle.value.specs.WholeLaws.{passes, served}
 use Rattle.base.specs.Same.{same}
 use Rattle.numbers.specs.Numbers.{withLength}
 use Rattle.hmac.specs.Hmac.{hmacOf}

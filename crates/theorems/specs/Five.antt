@@ -34,25 +34,25 @@ other = holding (0x41 ∷ 0x06 ∷ 0x71 ∷ 0xDB ∷ 0x01 ∷ 0 ∷ 0 ∷ 0 ∷ 
 -- both are whole under the list of RFC 5389, and each ends in a FINGERPRINT
 pub one-ends : Ends rfc5389 one
 unfolding Whole numberOf readingOf outcome scanned scan valueFaults printFaults printFault fault sizeFault look ruleOf ruleFault fingerprintAt crc32Of bytesFrom byteStep bitSteps bitStep withLength same headerFault frontFault be16 cookieAt parse
-one-ends = record
-    { bytes = tested one refl
-    ; whole = refl
-    ; before = take 1 (attributes one)
-    ; print = record { kind = 0x8028; value = 0x77 ∷ 0x6F ∷ 0xD8 ∷ 0x0A ∷ []; pad = [] }
-    ; last = refl
-    ; kind = refl
-    }
+one-ends = record {
+  bytes = tested one refl;
+  whole = refl;
+  before = take 1 (attributes one);
+  print = record { kind = 0x8028; value = 0x77 ∷ 0x6F ∷ 0xD8 ∷ 0x0A ∷ []; pad = [] };
+  last = refl;
+  kind = refl;
+}
 
 pub other-ends : Ends rfc5389 other
 unfolding Whole numberOf readingOf outcome scanned scan valueFaults printFaults printFault fault sizeFault look ruleOf ruleFault fingerprintAt crc32Of bytesFrom byteStep bitSteps bitStep withLength same headerFault frontFault be16 cookieAt parse
-other-ends = record
-    { bytes = tested other refl
-    ; whole = refl
-    ; before = take 1 (attributes other)
-    ; print = record { kind = 0x8028; value = 0x77 ∷ 0x6F ∷ 0xD8 ∷ 0x0A ∷ []; pad = [] }
-    ; last = refl
-    ; kind = refl
-    }
+other-ends = record {
+  bytes = tested other refl;
+  whole = refl;
+  before = take 1 (attributes other);
+  print = record { kind = 0x8028; value = 0x77 ∷ 0x6F ∷ 0xD8 ∷ 0x0A ∷ []; pad = [] };
+  last = refl;
+  kind = refl;
+}
 
 -- they are equally long, agree outside the five places from 24 on, and are not equal
 pub five-long : length one ≡ length other

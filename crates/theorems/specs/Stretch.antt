@@ -57,7 +57,7 @@ good-last (y ∷ ys) a g = good-last ys a (g .1)
 
 -- a whole datagram whose last attribute is a FINGERPRINT ends in a right one
 module _ (rows : List Row) (d : List ℕ) (h : Bytes d) (w : Whole rows d) (ys : List Attr) (a : Attr)
-  (e : attributes d ≡ ys ++ (a ∷ [])) (k : a .kind ≡ 0x8028) where
+    (e : attributes d ≡ ys ++ (a ∷ [])) (k : a .kind ≡ 0x8028) where
   abbrev at : ℕ
   at = 20 + length (allBytes ys)
 
@@ -89,16 +89,16 @@ module _ (rows : List Row) (d : List ℕ) (h : Bytes d) (w : Whole rows d) (ys :
       let g : headerFault d ≡ 0 = parts rows d w .header in
       let l : 20 ≤ length d = long d g in
       let n : length d - 20 ≡ length (allBytes ys) + 8 =
-          sym (length-drop 20 d) ∙ sym (ap length body) ∙ length-append (allBytes ys) (bytesOf a)
-          ∙ ap (λ (x : List ℕ). length (allBytes ys) + length x) bytes
+      sym (length-drop 20 d) ∙ sym (ap length body) ∙ length-append (allBytes ys) (bytesOf a)
+      ∙ ap (λ (x : List ℕ). length (allBytes ys) + length x) bytes
       in
-      record
-      { low = omega arith
-      ; long = omega arith
-      ; field = omega (arith, sized d g)
-      ; print =
-          sym (drop-drop (length (allBytes ys)) 20 d) ∙ ap (drop (length (allBytes ys))) (sym body)
-          ∙ drop-append-seam (allBytes ys) (bytesOf a) ∙ bytes
+      record {
+        low = omega arith;
+        long = omega arith;
+        field = omega (arith, sized d g);
+        print =
+            sym (drop-drop (length (allBytes ys)) 20 d) ∙ ap (drop (length (allBytes ys))) (sym body)
+            ∙ drop-append-seam (allBytes ys) (bytesOf a) ∙ bytes;
       }
 
 -- d is whole, and its last attribute is a FINGERPRINT
@@ -114,9 +114,8 @@ ending : {rows : List Row} {d : List ℕ} (x : Ends rows d) → Sealed d (20 + l
 ending {rows} {d} x = sealed rows d (x .bytes) (x .whole) (x .before) (x .print) (x .last) (x .kind)
 
 pub stretch : (rows : List Row) (d e : List ℕ) (k : ℕ) → Ends rows d → Ends rows e → length d ≡ length e
-  → ((j : ℕ) → (j < k) ⊎ (k + 4 ≤ j) → getD d j 0 ≡ getD e j 0) → d ≡ e
+    → ((j : ℕ) → (j < k) ⊎ (k + 4 ≤ j) → getD d j 0 ≡ getD e j 0) → d ≡ e
 stretch rows d e k x y l same =
     let p : ℕ = 20 + length (allBytes (x .before)) in
     let q : 20 + length (allBytes (y .before)) ≡ p = omega (arith, ending x .long, ending y .long, l) in
     stretch-sealed d e p k (x .bytes) (y .bytes) (ending x) (rw q at (ending y)) same
-

@@ -1,0 +1,55 @@
+-- The contracts of the public calls determine their answers and the buffer.
+use Prim.Native.Nat.{ℕ}
+use mathlib.Core.List.{List}
+use mathlib.Core.Path.{ap₂}
+use Rattle.base.specs.Determined.{Determines, by}
+use Rattle.rfc5389.specs.Rows.{rfc5389}
+use Rattle.begin.specs.declared.Written.{Written}
+use Rattle.append.specs.Append.{answer, appended}
+use Rattle.append_typed.specs.Typed.{textNumber, typed, refusal}
+use Rattle.append_typed.specs.declared.TextKind.{TextKind}
+use Rattle.append_typed.proofs.TextKind.as_u16.Kinds as as-u16
+use Rattle.append_typed.proofs.TextKind.as_u16.Reads as as-u16-reads
+use Rattle.append_typed.proofs.refusal_of.Kinds as refusal-of
+use Rattle.append_typed.proofs.refusal_of.Reads as refusal-of-reads
+use Rattle.append_typed.proofs.append_value.Kinds as append-value
+use Rattle.append_typed.proofs.append_value.Reads as append-value-reads
+use Rattle.append_typed.proofs.append_text.Kinds as append-text
+use Rattle.append_typed.proofs.append_text.Reads as append-text-reads
+use Rattle.append_typed.proofs.append_unknown_attributes.Kinds as append-unknown
+use Rattle.append_typed.proofs.append_unknown_attributes.Reads as append-unknown-reads
+
+pub determined-as-u16 : Determines as-u16.ps as-u16.r {I = TextKind} {A = ℕ} as-u16-reads.Asked as-u16-reads.Learnt
+    (λ κs a. a .0) (λ κs z e. z)
+determined-as-u16 =
+    by as-u16.ps as-u16.r as-u16-reads.Asked as-u16-reads.Learnt _ _
+    (λ x. textNumber x)
+    (λ κs a y d i q. q)
+
+pub determined-refusal-of : Determines refusal-of.ps refusal-of.r {I = ℕ × List ℕ} {A = ℕ} refusal-of-reads.Asked refusal-of-reads.Learnt
+    (λ κs a. (a .0, a .1 .0 .now)) (λ κs z e. z)
+determined-refusal-of =
+    by refusal-of.ps refusal-of.r refusal-of-reads.Asked refusal-of-reads.Learnt _ _
+    (λ x. refusal rfc5389 (x .0) (x .1))
+    (λ κs a y d i q. q)
+
+pub determined-append-value : Determines append-value.ps append-value.r {I = List ℕ × ℕ × ℕ × List ℕ} {A = Written × List ℕ} append-value-reads.Asked append-value-reads.Learnt
+    (λ κs a. (a .0 .now, a .1 .0, a .1 .1 .0, a .1 .1 .1 .0 .now)) (λ κs z e. (z, e .0 .now))
+determined-append-value =
+    by append-value.ps append-value.r append-value-reads.Asked append-value-reads.Learnt _ _
+    (λ x. (answer (x .0) (x .1) (typed (x .2) (x .3)), appended (x .0) (x .1) (typed (x .2) (x .3))))
+    (λ κs a y d i q. ap₂ (λ (u : Written) (v : List ℕ). (u, v)) (q .0) (q .1))
+
+pub determined-append-text : Determines append-text.ps append-text.r {I = List ℕ × TextKind × List ℕ} {A = Written × List ℕ} append-text-reads.Asked append-text-reads.Learnt
+    (λ κs a. (a .0 .now, a .1 .0, a .1 .1 .0 .now)) (λ κs z e. (z, e .0 .now))
+determined-append-text =
+    by append-text.ps append-text.r append-text-reads.Asked append-text-reads.Learnt _ _
+    (λ x. (answer (x .0) (refusal rfc5389 (textNumber (x .1)) (x .2)) (typed (textNumber (x .1)) (x .2)), appended (x .0) (refusal rfc5389 (textNumber (x .1)) (x .2)) (typed (textNumber (x .1)) (x .2))))
+    (λ κs a y d i q. ap₂ (λ (u : Written) (v : List ℕ). (u, v)) (q .0) (q .1))
+
+pub determined-append-unknown : Determines append-unknown.ps append-unknown.r {I = List ℕ × List ℕ} {A = Written × List ℕ} append-unknown-reads.Asked append-unknown-reads.Learnt
+    (λ κs a. (a .0 .now, a .1 .0 .now)) (λ κs z e. (z, e .0 .now))
+determined-append-unknown =
+    by append-unknown.ps append-unknown.r append-unknown-reads.Asked append-unknown-reads.Learnt _ _
+    (λ x. (answer (x .0) (refusal rfc5389 0x000A (x .1)) (typed 0x000A (x .1)), appended (x .0) (refusal rfc5389 0x000A (x .1)) (typed 0x000A (x .1))))
+    (λ κs a y d i q. ap₂ (λ (u : Written) (v : List ℕ). (u, v)) (q .0) (q .1))

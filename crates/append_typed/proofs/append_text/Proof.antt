@@ -1,0 +1,11 @@
+use borrow.Author.Needs.{needs}
+use Rattle.append_typed.proofs.append_text.Statement.{statement}
+use Rattle.append_typed.proofs.append_text.Tie as tie
+
+returns : tie.Need-returns
+returns c = (cc, cc)
+
+pub append-text-spec : {M : Type 1} → statement M
+append-text-spec =
+    tie.close
+    (tie.spec (λ c κs. search needs) (λ c κs. search needs) (λ c κs. search needs) (λ c. search needs) returns)

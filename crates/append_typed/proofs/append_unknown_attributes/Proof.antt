@@ -1,0 +1,10 @@
+use borrow.Author.Needs.{needs}
+use Rattle.append_typed.proofs.append_unknown_attributes.Statement.{statement}
+use Rattle.append_typed.proofs.append_unknown_attributes.Tie as tie
+
+returns : tie.Need-returns
+returns c = (cc, cc)
+
+pub append-unknown-attributes-spec : {M : Type 1} → statement M
+append-unknown-attributes-spec =
+    tie.close (tie.spec (λ c κs. search needs) (λ c κs. search needs) (λ c. search needs) returns)

@@ -1,0 +1,19 @@
+use Rattle.append_typed.proofs.Values.{value-answer, value-buffer}
+use borrow.Author.Needs.{needs}
+use Rattle.append_typed.proofs.append_value.Statement.{statement}
+use Rattle.append_typed.proofs.append_value.Tie as tie
+
+returns : tie.Need-returns
+returns c = (search (value-answer), search (value-buffer))
+
+pub append-value-spec : {M : Type 1} → statement M
+append-value-spec =
+    tie.close
+    (tie.spec
+    (λ c. search needs)
+    (λ c. search needs)
+    (λ c. search needs)
+    (λ c. search needs)
+    (λ c κs. search needs)
+    (λ c. search needs)
+    returns)

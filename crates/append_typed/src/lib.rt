@@ -1,0 +1,67 @@
+// Typed append: a value that is judged by its type's rules, with padding of zeros.
+ghost use mathlib.Core.Path.{_≡_};
+ghost use Rattle.rfc5389.specs.Rows.{rfc5389};
+ghost use Rattle.append.specs.Append.{answer, appended};
+ghost use Rattle.append_typed.specs.Typed.{typed, refusal, textNumber};
+use append::append_unless;
+use begin::Written;
+
+pub enum TextKind {
+    Username,
+    Realm,
+    Nonce,
+    Software,
+}
+
+impl TextKind {
+    // The attribute type.
+    pub fn as_u16(self) -> u16
+        ensures { λ r. ⌜ r ≡ textNumber self ⌝ }
+    {
+        match self {
+            TextKind::Username => 0x0006,
+            TextKind::Realm => 0x0014,
+            TextKind::Nonce => 0x0015,
+            TextKind::Software => 0x8022,
+        }
+    }
+}
+
+// 23 where a value breaks the list of types or its further rule, else 0.
+pub fn refusal_of(kind: u16, value: &[u8]) -> u8
+    ensures { λ r. ⌜ r ≡ refusal rfc5389 kind (now (value .entry)) ⌝ }
+{
+    if rfc5389::fault(kind, value) == 0 {
+        return 0;
+    }
+    23
+}
+
+// Appends a value with padding of zeros, unless `wrong` refuses it.
+pub fn append_value(buf: &mut [u8], wrong: u8, kind: u16, value: &[u8]) -> Written
+    ensures { λ r. ⌜ (r ≡ answer (now (buf .entry)) wrong (typed kind (now (value .entry))))
+        × (now (buf .exit) ≡ appended (now (buf .entry)) wrong (typed kind (now (value .entry)))) ⌝ }
+{
+    let zeros = [0u8; 3];
+    let m = (4 - value.len() % 4) % 4;
+    append_unless(buf, wrong, kind, value, &zeros[0..m])
+}
+
+// Appends USERNAME, REALM, NONCE or SOFTWARE.
+pub fn append_text(buf: &mut [u8], kind: TextKind, text: &[u8]) -> Written
+    ensures { λ r. ⌜ (r ≡ answer (now (buf .entry)) (refusal rfc5389 (textNumber kind) (now (text .entry))) (typed (textNumber kind) (now (text .entry))))
+        × (now (buf .exit) ≡ appended (now (buf .entry)) (refusal rfc5389 (textNumber kind) (now (text .entry))) (typed (textNumber kind) (now (text .entry)))) ⌝ }
+{
+    let k = kind.as_u16();
+    let wrong = refusal_of(k, text);
+    append_value(buf, wrong, k, text)
+}
+
+// Appends UNKNOWN-ATTRIBUTES: the types as they stand in a value, each two bytes, the first the higher.
+pub fn append_unknown_attributes(buf: &mut [u8], types: &[u8]) -> Written
+    ensures { λ r. ⌜ (r ≡ answer (now (buf .entry)) (refusal rfc5389 0x000A (now (types .entry))) (typed 0x000A (now (types .entry))))
+        × (now (buf .exit) ≡ appended (now (buf .entry)) (refusal rfc5389 0x000A (now (types .entry))) (typed 0x000A (now (types .entry)))) ⌝ }
+{
+    let wrong = refusal_of(0x000A, types);
+    append_value(buf, wrong, 0x000A, types)
+}

@@ -1,0 +1,26 @@
+use Rattle.begin.proofs.Begins.{refused-22, kept-22, refused-26, kept-26, total, laid-head}
+use borrow.Author.Needs.{needs}
+use Rattle.begin.proofs.begin.Statement.{statement}
+use Rattle.begin.proofs.begin.Tie as tie
+
+returns : tie.Need-returns
+returns c = (search (refused-26), search (kept-26))
+
+returns-2 : tie.Need-returns-2
+returns-2 c = (search (refused-22), search (kept-22))
+
+returns-3 : tie.Need-returns-3
+returns-3 c = (search (total), search (laid-head))
+
+pub begin-spec : {M : Type 1} → statement M
+begin-spec =
+    tie.close
+    (tie.spec
+    (λ c κs. search needs)
+    (λ c. search needs)
+    (λ c. search needs)
+    returns
+    (λ c κs. search needs)
+    returns-2
+    (λ c. search needs)
+    returns-3)

@@ -1,0 +1,3 @@
+mod Fronts
+mod Plans
+mod Determined

@@ -1,0 +1,1 @@
+// The round trip of whole messages: definitions and theorems alone, in specs/.

@@ -1,0 +1,23 @@
+use Rattle.seal.proofs.Sums.{print-answer, print-buffer}
+use borrow.Author.Needs.{needs}
+use Rattle.seal.proofs.append_fingerprint.Statement.{statement}
+use Rattle.seal.proofs.append_fingerprint.Tie as tie
+
+returns : tie.Need-returns
+returns c = (search (print-answer), search (print-buffer))
+
+pub append-fingerprint-spec : {M : Type 1} → statement M
+append-fingerprint-spec =
+    tie.close
+    (tie.spec
+    (λ c κs. search needs)
+    (λ c. search needs)
+    (λ c. search needs)
+    (λ c κs. search needs)
+    (λ c. search needs)
+    (λ c κs. search needs)
+    (λ c. search needs)
+    (λ c. search needs)
+    (λ c κs. search needs)
+    (λ c. search needs)
+    returns)

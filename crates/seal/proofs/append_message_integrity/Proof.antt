@@ -1,0 +1,22 @@
+use Rattle.seal.proofs.Sums.{mac-answer, mac-buffer}
+use borrow.Author.Needs.{needs}
+use Rattle.seal.proofs.append_message_integrity.Statement.{statement}
+use Rattle.seal.proofs.append_message_integrity.Tie as tie
+
+returns : tie.Need-returns
+returns c = (search (mac-answer), search (mac-buffer))
+
+pub append-message-integrity-spec : {M : Type 1} → statement M
+append-message-integrity-spec =
+    tie.close
+    (tie.spec
+    (λ c κs. search needs)
+    (λ c. search needs)
+    (λ c. search needs)
+    (λ c κs. search needs)
+    (λ c κs. search needs)
+    (λ c. search needs)
+    (λ c. search needs)
+    (λ c κs. search needs)
+    (λ c. search needs)
+    returns)
