@@ -3,6 +3,7 @@ pub mod SheetTyped
 pub mod Alone
 pub mod Covers
 pub mod Served
+pub mod Demand2
 pub mod Stretch
 pub mod Five
 pub mod Sixteen
