@@ -1,13 +1,13 @@
 -- What the calls return and leave in the buffer, as the code finds it.
 use Prim.Native.Nat.{ℕ, _+_, _≤_, _<_}
 use mathlib.Core.List.{List, _++_}
-use mathlib.Core.Path.{_≡_, refl, sym, ap, _∙_}
+use mathlib.Core.Path.{_≡_, ap, _∙_}
 use native.Mathlib.Omega.{arith}
 use lib.ListN.{length, length-append}
 use Rattle.base.specs.Laid.{laid, length-laid}
 use Rattle.numbers.specs.Numbers.{two, put}
 use Rattle.numbers.specs.PutLaws.{put-laid, put-behind}
-use Rattle.attribute.specs.Attribute.{padded, Attr, bytesOf}
+use Rattle.attribute.specs.Attribute.{bytesOf}
 use Rattle.begin.specs.declared.Written.the-variants.{Total, Refused}
 use Rattle.plan.specs.Plan.{planOf}
 use Rattle.plan.specs.PlanLaws.{Going, going}

@@ -1,12 +1,14 @@
 -- Laws of appending that other crates cite.
-use Prim.Native.Nat.{ℕ, _+_, _≤_, _<_}
-use mathlib.Core.List.{List}
+use Prim.Native.Nat.{ℕ, suc, _+_, _≤_}
+use mathlib.Core.List.{List, [], _∷_}
 use mathlib.Core.Path.{_≡_, refl, sym, ap, _∙_}
 use native.Mathlib.Omega.{arith}
 use native.Mathlib.Decide.{ℕ-discrete}
-use lib.ListN.{length}
-use Rattle.attribute.specs.Attribute.{padded, Attr, bytesOf}
-use Rattle.begin.specs.declared.Written.{Written}
+use lib.ListN.{length, set, drop, length-append}
+use lib.Seq.{sets, drop-set-lt}
+use Rattle.base.specs.Laid.{laid}
+use Rattle.numbers.specs.Numbers.{two}
+use Rattle.attribute.specs.Attribute.{Attr, bytesOf}
 use Rattle.begin.specs.declared.Written.the-variants.{Total, Refused}
 use Rattle.plan.specs.Plan.{messageFault, planOf}
 use Rattle.plan.specs.PlanLaws.{no-message, wrong, plan-is, Going, going}
@@ -66,3 +68,33 @@ total-goes d f a {t} e = go (planFor d f a) refl e
     go : (p : Plan) → p ≡ planFor d f a → answered p ≡ Total t → (at : ℕ) × (body : ℕ) × Going d f (length (a .value)) (length (a .pad)) at body t
     go (Go at body total) q g = let z : total ≡ t = cc in (at, body, going (ap (λ (x : ℕ). Go at body x) z) q)
     go (No n) q g = let z : _≡_ {A = ℕ} 0 1 = cc in absurd (omega arith)
+
+-- NOTHING SPOILT: a refusal leaves every byte as it was
+pub refused-keeps : (d : List ℕ) (f : ℕ) (a : Attr) {k : ℕ} → answer d f a ≡ Refused k → appended d f a ≡ d
+unfolding answer answered appended written
+refused-keeps d f a {k} e = go (planFor d f a) e
+  where
+    go : (p : Plan) → answered p ≡ Refused k → written d a p ≡ d
+    go (No n) g = refl
+    go (Go at body total) g = let z : _≡_ {A = ℕ} 0 1 = cc in absurd (omega arith)
+
+sets-behind : (s l : List ℕ) (i n : ℕ) → i + length s ≤ n → drop n (sets l i s) ≡ drop n l
+sets-behind [] l i n h = refl
+sets-behind (b ∷ s) l i n h = sets-behind s (set l i b) (suc i) n (omega arith) ∙ drop-set-lt n l i b (omega arith)
+
+laid-behind : (l : List ℕ) (i : ℕ) (s : List ℕ) (n : ℕ) → i + length s ≤ n → drop n (laid l i s) ≡ drop n l
+unfolding laid
+laid-behind l i s n h = sets-behind s l i n h
+
+-- and an attribute that goes leaves the bytes behind the new total
+pub behind-stays : (d : List ℕ) (f : ℕ) (a : Attr) {t : ℕ} → answer d f a ≡ Total t → drop t (appended d f a) ≡ drop t d
+unfolding answer answered appended written planFor
+behind-stays d f a {t} e = go (planFor d f a) refl e
+  where
+    go : (p : Plan) → p ≡ planFor d f a → answered p ≡ Total t → drop t (written d a p) ≡ drop t d
+    go (No n) q g = let z : _≡_ {A = ℕ} 0 1 = cc in absurd (omega arith)
+    go (Go at body total) q g =
+        let z : total ≡ t = cc in
+        let w : Going d f (length (a .value)) (length (a .pad)) at body t = going (ap (λ (x : ℕ). Go at body x) z) q in
+        let l : length (bytesOf a) ≡ 4 + (length (a .value) + length (a .pad)) = simp length-append (omega arith) in
+        laid-behind (laid d at (bytesOf a)) 2 (two body) t (omega (arith, w)) ∙ laid-behind d at (bytesOf a) t (omega (arith, w))

@@ -1,12 +1,12 @@
 -- The bytes of the values, and what the calls return and leave in the buffer.
 use Prim.Native.Nat.{ℕ, _+_, _-_, _/_, _%_, _≤_, _<_}
-use mathlib.Core.List.{List, [], _∷_, _++_, append-nil, append-assoc}
+use mathlib.Core.List.{List, [], _∷_, _++_, append-nil}
 use mathlib.Core.Path.{_≡_, refl, sym, ap, ap₂, _∙_}
 use native.Mathlib.Omega.{arith}
 use borrow.Author.Tests.{lt-ltb, le-ltb}
-use lib.ListN.{length, take, drop, set, replicate, length-append, length-take, drop-of-length-le}
+use lib.ListN.{length, take, drop, set, replicate, drop-of-length-le}
 use lib.Seq.{take-at}
-use Rattle.base.specs.Laid.{laid, laid-is, laid-append}
+use Rattle.base.specs.Laid.{laid, laid-is}
 use Rattle.numbers.specs.Numbers.{two, put}
 use Rattle.numbers.specs.PutLaws.{put-laid, put-behind}
 use Rattle.wire.specs.declared.transaction_id.TransactionId.{TransactionId}

@@ -1,15 +1,13 @@
 -- An address or an error code that was appended has none of the faults 11 to 14.
 use Prim.Native.Nat.{ℕ}
-use mathlib.Core.List.{List, _∷_}
+use mathlib.Core.List.{List}
 use mathlib.Core.Bool.{Bool, true, false}
-use mathlib.Core.Path.{_≡_, refl, sym, ap, _∙_}
+use mathlib.Core.Path.{_≡_}
 use native.Mathlib.Omega.{arith}
-use borrow.Author.Tests.{eq-eqb}
 use lib.ListN.{length, take, length-take}
 use lib.Dec.{ltb}
 use Rattle.base.specs.Choice.{pick}
 use Rattle.attribute.specs.Attribute.{Attr}
-use Rattle.net.specs.Net.{ipSize}
 use Rattle.net.specs.declared.Family.{Family}
 use Rattle.net.specs.declared.Family.the-variants.{Ipv4, Ipv6}
 use Rattle.net.specs.declared.SocketAddr.{SocketAddr}

@@ -7,7 +7,7 @@ ghost use Rattle.numbers.specs.Numbers.{two};
 ghost use Rattle.header.specs.Header.{frontOf};
 ghost use Rattle.rfc5389.specs.Rows.{rfc5389};
 ghost use Rattle.append.specs.Append.{answer, appended};
-ghost use Rattle.append_typed.specs.Typed.{typed, refusal};
+ghost use Rattle.append_typed.specs.Typed.{typed};
 ghost use Rattle.append_fields.specs.Fields.{addressNumber, addressValue, given, codeValue, codeRefusal};
 use append_typed::append_value;
 use append_typed::refusal_of;

@@ -5,7 +5,7 @@ use mathlib.Core.Path.{_≡_, refl, sym, ap, _∙_}
 use native.Mathlib.Omega.{arith}
 use borrow.Author.Tests.{eq-eqb, ne-eqb}
 use lib.ListN.{length, take, drop, replicate}
-use Rattle.attribute.specs.Attribute.{padded, Attr}
+use Rattle.attribute.specs.Attribute.{padded}
 use Rattle.rfc5389.specs.Fault.{fault}
 use Rattle.rfc5389.specs.Rows.{rfc5389}
 use Rattle.begin.specs.declared.Written.{Written}

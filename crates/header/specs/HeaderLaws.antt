@@ -81,15 +81,6 @@ pub front-refused : (d : List ℕ) {k : ℕ} → frontOf d .head ≡ Refused k �
 unfolding frontOf answer told
 front-refused d {k} e z = let y : _≡_ {A = ℕ} 0 1 = cc (ap (λ (n : ℕ). answer n d .head) z) in omega arith
 
--- and it is long enough for a header
-pub front-long : (d : List ℕ) → frontFault d ≡ 0 → 20 ≤ length d
-unfolding frontFault
-front-long d e = go (ltb (length d) 20) refl
-  where
-    go : (b : Bool) → ltb (length d) 20 ≡ b → 20 ≤ length d
-    go true p = let z : _≡_ {A = ℕ} 1 0 = sym (rw p) ∙ e in absurd (omega arith)
-    go false p = ltb-false (length d) 20 p
-
 -- what it is that no check refuses
 pub record Checked (d : List ℕ) : Type 0 where
   pub long : 20 ≤ length d

@@ -6,14 +6,13 @@ use mathlib.Core.Path.{_≡_, refl, sym, ap, _∙_}
 use native.Mathlib.Omega.{arith}
 use borrow.Author.Tests.{lt-ltb, le-ltb, eq-eqb, ne-eqb}
 use lib.ListN.{length, take, drop, length-drop}
-use Rattle.numbers.specs.Numbers.{be16}
 use Rattle.wire.specs.declared.method.Method.{Method}
 use Rattle.wire.specs.declared.types.MessageClass.{MessageClass}
 use Rattle.header.specs.Header.{frontFault, frontOf}
 use Rattle.header.specs.HeaderLaws.{Front, front-said, front-refused}
 use Rattle.header.specs.declared.Header.{Header}
 use Rattle.header.specs.declared.Head.the-variants.{Good, Refused}
-use Rattle.attribute.specs.Attribute.{Body, rest, parse}
+use Rattle.attribute.specs.Attribute.{rest, parse}
 use Rattle.attribute.specs.Walk.{stepAt}
 use Rattle.attribute.specs.WalkLaws.{Ahead, ahead, seen, cut-short}
 use Rattle.attribute.specs.BodyLaws.{body-seen}

@@ -5,11 +5,10 @@ use mathlib.Core.Bool.{Bool, true, false}
 use mathlib.Core.Path.{_≡_, refl, sym, ap, _∙_, subst}
 use native.Mathlib.Omega.{arith}
 use native.Mathlib.Decide.{decLt, ℕ-discrete}
-use borrow.Author.Tests.{lt-ltb, le-ltb, eq-eqb, ne-eqb, eqb-true, eqb-false, ltb-true, ltb-false}
+use borrow.Author.Tests.{lt-ltb, le-ltb, eq-eqb, ne-eqb, eqb-true, ltb-false}
 use lib.ListN.{length, take, drop}
 use lib.Dec.{ltb, eqb}
 use Rattle.base.specs.Choice.{pick}
-use Rattle.numbers.specs.Numbers.{be16}
 use Rattle.header.specs.Header.{frontFault}
 use Rattle.attribute.specs.Attribute.{padded, rest, parse}
 use Rattle.plan.specs.Plan.{none, covers, sizeOf, messageFault, bodyWith, planOf}

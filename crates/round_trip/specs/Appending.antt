@@ -1,7 +1,7 @@
 -- An attribute appended is read behind what was there: class, method, ID and the earlier attributes as before, the new one as given.
-use Prim.Native.Nat.{ℕ, _+_, _-_, _≤_, _<_}
-use mathlib.Core.List.{List, [], _∷_, _++_, append-assoc, append-nil}
-use mathlib.Core.Path.{_≡_, refl, sym, ap, ap₂, _∙_}
+use Prim.Native.Nat.{ℕ, _+_, _≤_, _<_}
+use mathlib.Core.List.{List, [], _∷_, _++_}
+use mathlib.Core.Path.{_≡_, sym, ap, ap₂, _∙_}
 use native.Mathlib.Omega.{arith}
 use lib.ListN.{length, take, drop, length-append, length-drop, take-append-drop}
 use lib.Seq.{take-at, length-take-le}
@@ -10,10 +10,9 @@ use Rattle.numbers.specs.Numbers.{be16}
 use Rattle.wire.specs.TypeNumber.{typeOf, classNumber}
 use Rattle.wire.specs.TypeLaws.{type-below, class-small}
 use Rattle.header.specs.HeaderLaws.{unrefused, take-be16, take-front}
-use Rattle.attribute.specs.Attribute.{padded, Attr, rest, parse, allBytes}
+use Rattle.attribute.specs.Attribute.{padded, Attr, allBytes}
 use Rattle.attribute.specs.Attribute as one
-use Rattle.attribute.specs.RoundTrip.{Good, Goods}
-use Rattle.begin.specs.Begin.{headBytes}
+use Rattle.attribute.specs.RoundTrip.{Good}
 use Rattle.begin.specs.declared.Written.the-variants.{Total}
 use Rattle.plan.specs.Plan.{sizeOf}
 use Rattle.plan.specs.PlanLaws.{Going, message}

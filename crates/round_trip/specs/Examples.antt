@@ -1,7 +1,7 @@
 -- P8 and P10 of the sheet (docs/SCOPE.md, "Sheet of examples").
 use Prim.Native.Nat.{ℕ, _+_, _%_, _≤_, _<_}
 use mathlib.Core.List.{List, [], _∷_, _++_}
-use mathlib.Core.Path.{_≡_, refl, sym, ap, ap₂, _∙_}
+use mathlib.Core.Path.{_≡_, refl, sym, ap, _∙_}
 use native.Mathlib.Omega.{arith}
 use lib.ListN.{length, drop, replicate, length-append, length-replicate}
 use Rattle.base.specs.Same.{same}
@@ -20,7 +20,6 @@ use Rattle.begin.specs.Begin.{headBytes}
 use Rattle.begin.specs.declared.Written.the-variants.{Total, Refused}
 use Rattle.plan.specs.Plan.{messageFault, covers, planOf}
 use Rattle.plan.specs.PlanLaws.{long, plan-is}
-use Rattle.plan.specs.declared.Plan.the-variants.{Go, No}
 use Rattle.append.specs.Append.{attr, answered, written, planFor, answer, appended}
 use Rattle.round_trip.specs.Message.{Message, bytesOf, Shaped, write, said}
 use Rattle.round_trip.specs.FrontLaws.{front, is-message, body-is}

@@ -1,27 +1,26 @@
 -- A buffer that starts with a message: what the checks find there, and what one more attribute makes of it.
-use Prim.Native.Nat.{ℕ, _+_, _-_, _*_, _/_, _%_, _≤_, _<_}
+use Prim.Native.Nat.{ℕ, _+_, _*_, _/_, _%_, _≤_, _<_}
 use mathlib.Core.List.{List, [], _∷_, _++_, append-assoc, append-nil}
-use mathlib.Core.Bool.{Bool, true, false}
+use mathlib.Core.Bool.{Bool}
 use mathlib.Core.Path.{_≡_, refl, sym, ap, ap₂, _∙_}
 use native.Mathlib.Omega.{arith}
 use borrow.Author.Tests.{le-ltb, lt-leb}
 use lib.ListN.{length, take, drop, length-append}
-use lib.Seq.{take-at, drop-at, drop-append-add, take-append-le, drop-append-le}
+use lib.Seq.{take-at, drop-at, drop-append-add}
 use Rattle.base.specs.Choice.{pick}
 use Rattle.base.specs.Same.{same}
 use Rattle.base.specs.Laid.{laid, laid-is}
 use Rattle.numbers.specs.Numbers.{be16, two}
-use Rattle.wire.specs.Cookie.{cookie, cookieAt}
+use Rattle.wire.specs.Cookie.{cookieAt}
 use Rattle.header.specs.Header.{frontFault}
-use Rattle.attribute.specs.Attribute.{padded, Attr, attrs, rest, parse, bytesOf, allBytes}
+use Rattle.attribute.specs.Attribute.{padded, Attr, rest, parse, bytesOf, allBytes}
 use Rattle.attribute.specs.RoundTrip.{Good, Goods, decode-allBytes}
 use Rattle.begin.specs.Begin.{headBytes}
 use Rattle.begin.specs.declared.Written.the-variants.{Total}
-use Rattle.plan.specs.Plan.{sizeOf, messageFault, bodyWith, planOf}
-use Rattle.plan.specs.PlanLaws.{Message, message-is, goes, plan-is}
-use Rattle.plan.specs.declared.Plan.{Plan}
-use Rattle.plan.specs.declared.Plan.the-variants.{Go, No}
-use Rattle.append.specs.Append.{attr, answered, written, planFor, answer, appended}
+use Rattle.plan.specs.Plan.{sizeOf, messageFault, bodyWith}
+use Rattle.plan.specs.PlanLaws.{message-is, goes, plan-is}
+use Rattle.plan.specs.declared.Plan.the-variants.{Go}
+use Rattle.append.specs.Append.{answered, written, planFor, answer, appended}
 
 -- the header of a buffer
 module _ (t n : ℕ) (id s : List ℕ) (il : length id ≡ 12) where

@@ -30,7 +30,9 @@ use Rattle.attribute.specs.declared.Scan.the-variants.{Passed, Fault}
 use Rattle.crc32.specs.Crc.{crc32Of}
 use Rattle.fingerprint.specs.Fingerprint.{fingerprintAt}
 use Rattle.hmac.specs.Hmac.{hmacOf}
+use Rattle.hmac.specs.HmacLaws.{length-hmac}
 use Rattle.rfc5389.specs.Rows.{rfc5389, look}
+use Rattle.rfc5389.specs.declared.Row.{Row}
 use Rattle.rfc5389.specs.Fault.{ruleOf, ruleFault, sizeFault, fault}
 use Rattle.message.specs.Reading.{valueFaults, printFault, printFaults, readingOf}
 use Rattle.message.specs.declared.Answer.the-variants.{Whole}
@@ -106,24 +108,13 @@ module _ (d : List ℕ) (h : Bytes d) (there : plan.Message d) (a : Attr) where
       same-front (sizeOf d) v (omega arith) (omega arith)
       ∙ ap (λ (x : List ℕ). withLength x v) (ap (take (sizeOf d)) (held-bytes d h there) ∙ take-take (sizeOf d) (sizeOf d) d (omega arith))
 
--- a FINGERPRINT of four bytes has no fault in its value
-four-good : (x : ℕ) → fault rfc5389 0x8028 (four x) ≡ 0
-unfolding fault look sizeFault ruleOf ruleFault
-four-good x = refl
-
-module _ (d : List ℕ) {t : ℕ} (h : Bytes d) (e : answer d 0 (fingerprint d) ≡ Total t) where
-  abbrev a : Attr
-  a = fingerprint d
-
-  facts : (at : ℕ) × (body : ℕ) × Going d 0 (length (a .value)) (length (a .pad)) at body t
-  facts = total-goes d 0 a e
+-- an attribute appended that passes by its value and as a FINGERPRINT leaves a whole message whole
+module _ (d : List ℕ) {t : ℕ} (h : Bytes d) (a : Attr) (small : a .kind < 65536) (e : answer d 0 a ≡ Total t) where
+  going : (at : ℕ) × (body : ℕ) × Going d 0 (length (a .value)) (length (a .pad)) at body t
+  going = total-goes d 0 a e
 
   there : plan.Message d
-  there = message d (facts .2 .fault)
-
-  small : a .kind < 65536
-  unfolding fingerprint
-  small = omega arith
+  there = message d (going .2 .fault)
 
   abbrev M : Message
   M = held d
@@ -137,35 +128,14 @@ module _ (d : List ℕ) {t : ℕ} (h : Bytes d) (e : answer d 0 (fingerprint d) 
   wN : Shaped N
   wN = with-shaped d 0 a h small e
 
-  few : sizeOf d - 20 + 8 ≤ 65535
-  unfolding fingerprint
-  few = omega (arith, facts .2)
-
-  -- the sums at the places of the earlier attributes, and at the new one
+  -- the sums at the places of the earlier attributes are as they were
   same-sum : (q : ℕ) → 20 ≤ q → q ≤ sizeOf d → fingerprintAt (bytesOf N) q ≡ fingerprintAt (bytesOf M) q
   unfolding fingerprintAt
   same-sum q l k = ap (λ (x : List ℕ). bitXor (crc32Of x) 0x5354554E) (same-front d h there a q (q - 20 + 8) l k)
 
-  own-sum : fingerprintAt (bytesOf N) (sizeOf d) ≡ fingerprintAt d (sizeOf d)
-  unfolding fingerprintAt
-  own-sum = ap (λ (x : List ℕ). bitXor (crc32Of x) 0x5354554E) (own-front d h there a (sizeOf d - 20 + 8))
-
-  value-last : valueFaults rfc5389 (sizeOf d) a ≡ 0
-  unfolding valueFaults fingerprint
-  value-last = four-good (fingerprintAt d (sizeOf d))
-
-  print-last : printFaults (bytesOf N) (sizeOf d) a ≡ 0
-  unfolding printFaults printFault fingerprint
-  print-last =
-      simp (le-ltb 65535 (sizeOf d - 20 + 8) few)
-      (ap (λ (b : Bool). pick b 0 15) (ap (λ (x : ℕ). same (four (fingerprintAt d (sizeOf d))) (four x)) own-sum ∙ same-refl (four (fingerprintAt d (sizeOf d)))))
-
   print-agree : (q : ℕ) (x : Attr) → 20 ≤ q → q ≤ sizeOf d → printFaults (bytesOf M) q x ≡ 0 → printFaults (bytesOf N) q x ≡ 0
   unfolding printFaults printFault
   print-agree q x l k z = rw (same-sum q l k) z
-
-  values-agree : (q : ℕ) (x : Attr) → 20 ≤ q → q ≤ sizeOf d → valueFaults rfc5389 q x ≡ 0 → valueFaults rfc5389 q x ≡ 0
-  values-agree q x l k z = z
 
   scanned-one : (f g : ℕ → Attr → ℕ) {k : ℕ} → ((q : ℕ) (x : Attr) → 20 ≤ q → q ≤ sizeOf d → f q x ≡ 0 → g q x ≡ 0) → g (sizeOf d) a ≡ 0
       → scanned f (bytesOf M) ≡ Passed k → scanned g (bytesOf N) ≡ Passed (k + 1)
@@ -174,22 +144,51 @@ module _ (d : List ℕ) {t : ℕ} (h : Bytes d) (e : answer d 0 (fingerprint d) 
       ap (scan g 0 20) (body-is N wN)
       ∙ scan-one f g a (sizeOf d) agree last 0 20 (M .attributes) (omega arith) (size d h there a) (sym (ap (scan f 0 20) (body-is M wM)) ∙ s)
 
-  -- SEALED: what was whole is whole, with one attribute more
-  pub sealed : {c : MessageClass} {m : Method} {n : ℕ} → readingOf rfc5389 (take (sizeOf d) d) .answer ≡ Whole c m n
-      → readingOf rfc5389 (take t (appended d 0 (fingerprint d))) .answer ≡ Whole c m (n + 1)
-  sealed {c} {m} {n} w =
-      let p : Passes rfc5389 (bytesOf M) c m n = passes rfc5389 (bytesOf M) (ap (λ (x : List ℕ). readingOf rfc5389 x .answer) (held-bytes d h there) ∙ w) in
+  pub kept : (rows : List Row) {c : MessageClass} {m : Method} {n : ℕ} → valueFaults rows (sizeOf d) a ≡ 0 → printFaults (bytesOf N) (sizeOf d) a ≡ 0
+      → readingOf rows (take (sizeOf d) d) .answer ≡ Whole c m n → readingOf rows (take t (appended d 0 a)) .answer ≡ Whole c m (n + 1)
+  kept rows {c} {m} {n} value-last print-last w =
+      let p : Passes rows (bytesOf M) c m n = passes rows (bytesOf M) (ap (λ (x : List ℕ). readingOf rows x .answer) (held-bytes d h there) ∙ w) in
       let k : be16 (bytesOf M) 0 ≡ be16 (bytesOf N) 0 = t-again M wM ∙ sym (t-again N wN) in
       rw (appended-bytes d 0 a h small e)
-      (passes-whole rfc5389 (bytesOf N)
+      (passes-whole rows (bytesOf N)
       (record {
         header = header-again N wN;
         class = p .class ∙ ap (λ (x : ℕ). classNumbered (classOf x)) k;
         method = p .method ∙ ap (λ (x : ℕ). record { code = methodOf x }) k;
         count = p .count + 1;
-        values = scanned-one (valueFaults rfc5389) (valueFaults rfc5389) values-agree value-last (p .values);
+        values = scanned-one (valueFaults rows) (valueFaults rows) (λ q x l k z. z) value-last (p .values);
         prints = scanned-one (printFaults (bytesOf M)) (printFaults (bytesOf N)) print-agree print-last (p .prints);
       }))
+
+-- SEALED: with a FINGERPRINT appended, what was whole is whole, with one attribute more
+module _ (d : List ℕ) {t : ℕ} (h : Bytes d) (e : answer d 0 (fingerprint d) ≡ Total t) where
+  tiny : fingerprint d .kind < 65536
+  unfolding fingerprint
+  tiny = omega arith
+
+  few : sizeOf d - 20 + 8 ≤ 65535
+  unfolding fingerprint
+  few = omega (arith, going d h (fingerprint d) tiny e .2)
+
+  own-sum : fingerprintAt (bytesOf (with (held d) (fingerprint d))) (sizeOf d) ≡ fingerprintAt d (sizeOf d)
+  unfolding fingerprintAt
+  own-sum =
+      ap (λ (x : List ℕ). bitXor (crc32Of x) 0x5354554E)
+      (own-front d h (there d h (fingerprint d) tiny e) (fingerprint d) (sizeOf d - 20 + 8))
+
+  value-right : valueFaults rfc5389 (sizeOf d) (fingerprint d) ≡ 0
+  unfolding valueFaults fingerprint fault look sizeFault ruleOf ruleFault
+  value-right = refl
+
+  print-right : printFaults (bytesOf (with (held d) (fingerprint d))) (sizeOf d) (fingerprint d) ≡ 0
+  unfolding printFaults printFault fingerprint
+  print-right =
+      simp (le-ltb 65535 (sizeOf d - 20 + 8) few)
+      (ap (λ (b : Bool). pick b 0 15) (ap (λ (x : ℕ). same (four (fingerprintAt d (sizeOf d))) (four x)) own-sum ∙ same-refl (four (fingerprintAt d (sizeOf d)))))
+
+  pub sealed : {c : MessageClass} {m : Method} {n : ℕ} → readingOf rfc5389 (take (sizeOf d) d) .answer ≡ Whole c m n
+      → readingOf rfc5389 (take t (appended d 0 (fingerprint d))) .answer ≡ Whole c m (n + 1)
+  sealed w = kept d h (fingerprint d) tiny e rfc5389 value-right print-right w
 
 -- SIGNED: the value appended is the digest of the bytes before it, as a check of the new datagram computes it
 pub signed : (key d : List ℕ) {t : ℕ} → Bytes d → answer d 0 (integrity key d) ≡ Total t
@@ -201,3 +200,21 @@ signed key d {t} h e =
     ap (λ (x : List ℕ). hmacOf key x)
     (ap (λ (x : List ℕ). withLength (take (sizeOf d) x) n) (appended-bytes d 0 (integrity key d) h (omega arith) e)
     ∙ own-front d h there (integrity key d) n)
+
+-- and the message stays whole
+module _ (key d : List ℕ) {t : ℕ} (h : Bytes d) (e : answer d 0 (integrity key d) ≡ Total t) where
+  pub low : integrity key d .kind < 65536
+  unfolding integrity
+  low = omega arith
+
+  mac-right : valueFaults rfc5389 (sizeOf d) (integrity key d) ≡ 0
+  unfolding valueFaults integrity integrityAt fault look sizeFault ruleOf ruleFault
+  mac-right = rw (length-hmac key (withLength (take (sizeOf d) d) (sizeOf d - 20 + 24)))
+
+  no-print : printFaults (bytesOf (with (held d) (integrity key d))) (sizeOf d) (integrity key d) ≡ 0
+  unfolding printFaults printFault integrity
+  no-print = refl
+
+  pub signed-whole : {c : MessageClass} {m : Method} {n : ℕ} → readingOf rfc5389 (take (sizeOf d) d) .answer ≡ Whole c m n
+      → readingOf rfc5389 (take t (appended d 0 (integrity key d))) .answer ≡ Whole c m (n + 1)
+  signed-whole w = kept d h (integrity key d) low e rfc5389 mac-right no-print w

@@ -1,8 +1,8 @@
 -- Demand 2: whole datagrams written again are the same bytes, and messages written are read back as they were.
 use Prim.Native.Nat.{ℕ, _+_, _≤_}
-use mathlib.Core.List.{List, [], _∷_, _++_}
+use mathlib.Core.List.{List, [], _∷_}
 use mathlib.Core.Bool.{Bool, true, false}
-use mathlib.Core.Path.{_≡_, refl, sym, ap, ap₂, _∙_}
+use mathlib.Core.Path.{_≡_, refl, sym, ap, _∙_}
 use native.Mathlib.Omega.{arith}
 use borrow.Author.Tests.{eqb-true, eq-eqb}
 use lib.ListN.{length, take, drop, replicate}
@@ -21,7 +21,7 @@ use Rattle.attribute.specs.declared.Scan.{Scan}
 use Rattle.attribute.specs.declared.Scan.the-variants.{Passed, Fault}
 use Rattle.rfc5389.specs.declared.Row.{Row}
 use Rattle.message.specs.Reading.{valueFaults, printFaults, andThen, outcome, answered, readingOf}
-use Rattle.message.specs.declared.Answer.the-variants.{Whole, Broken, Refused}
+use Rattle.message.specs.declared.Answer.the-variants.{Whole, Refused}
 use Rattle.message.specs.declared.Reading.{Reading}
 use Rattle.round_trip.specs.Message.{Message, bytesOf, messageOf, Shaped, Writable, Sound, write}
 use Rattle.round_trip.specs.Bijection.{bijection, read-written}

@@ -11,11 +11,11 @@ use Rattle.wire.specs.TypeNumber.{typeOf, classNumber}
 use Rattle.wire.specs.TypeLaws.{type-below, class-small}
 use Rattle.attribute.specs.Attribute.{Attr, allBytes}
 use Rattle.attribute.specs.Attribute as one
-use Rattle.attribute.specs.RoundTrip.{Good, Goods}
+use Rattle.attribute.specs.RoundTrip.{Goods}
 use Rattle.begin.specs.Begin.{headBytes, beginFault, begun, beginning}
 use Rattle.begin.specs.declared.Written.{Written}
 use Rattle.begin.specs.declared.Written.the-variants.{Total}
-use Rattle.append.specs.Append.{answer, appended}
+use Rattle.append.specs.Append.{answer}
 use Rattle.round_trip.specs.Message.{Message, bytesOf, Shaped, writeFrom, saidFrom, write, said}
 use Rattle.round_trip.specs.FrontLaws.{head-length, front, all-one, goods-one, step-answer, step-buffer}
 

@@ -1,6 +1,5 @@
 // FINGERPRINT and MESSAGE-INTEGRITY appended, each by the writer's own computation.
 ghost use mathlib.Core.Path.{_≡_};
-ghost use mathlib.Core.List.{[]};
 ghost use Rattle.append.specs.Append.{answer, appended};
 ghost use Rattle.seal.specs.Seal.{fingerprint, integrity};
 use append::append_raw;

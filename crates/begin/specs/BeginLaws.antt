@@ -1,0 +1,34 @@
+-- What the answer of `begin` says in numbers, and that a refusal leaves every byte as it was.
+use Prim.Native.Nat.{ℕ}
+use mathlib.Core.List.{List}
+use mathlib.Core.Bool.{Bool, true, false}
+use mathlib.Core.Path.{_≡_, refl, sym}
+use native.Mathlib.Omega.{arith}
+use borrow.Author.Tests.{eqb-true}
+use lib.Dec.{eqb}
+use Rattle.base.specs.Choice.{pick}
+use Rattle.base.specs.Laid.{laid}
+use Rattle.wire.specs.TypeNumber.{typeOf, classNumber}
+use Rattle.wire.specs.declared.method.Method.{Method}
+use Rattle.wire.specs.declared.transaction_id.TransactionId.{TransactionId}
+use Rattle.wire.specs.declared.types.MessageClass.{MessageClass}
+use Rattle.begin.specs.Begin.{headBytes, beginFault, begun, beginning, numberOf}
+use Rattle.begin.specs.declared.Written.the-variants.{Total, Refused}
+
+pub begun-number : (d : List ℕ) (m : Method) → numberOf (begun d m) ≡ beginFault d (m .code)
+unfolding numberOf begun
+begun-number d m = go (eqb (beginFault d (m .code)) 0) refl
+  where
+    go : (b : Bool) → eqb (beginFault d (m .code)) 0 ≡ b → numberOf (pick b (Total 20) (Refused (beginFault d (m .code)))) ≡ beginFault d (m .code)
+    go true p = sym (eqb-true (beginFault d (m .code)) 0 p)
+    go false p = refl
+
+-- NOTHING SPOILT
+pub refused-keeps : (d : List ℕ) (c : MessageClass) (m : Method) (id : TransactionId) {k : ℕ} → begun d m ≡ Refused k → beginning d c m id ≡ d
+unfolding begun beginning
+refused-keeps d c m id {k} e = go (eqb (beginFault d (m .code)) 0) e
+  where
+    go : (b : Bool) → pick b (Total 20) (Refused (beginFault d (m .code))) ≡ Refused k
+        → pick b (laid d 0 (headBytes (typeOf (classNumber c) (m .code)) 0 (id .bytes))) d ≡ d
+    go true f = let z : _≡_ {A = ℕ} 0 1 = cc in absurd (omega arith)
+    go false f = refl
