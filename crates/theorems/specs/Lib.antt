@@ -4,6 +4,7 @@ pub mod Alone
 pub mod Covers
 pub mod Served
 pub mod Demand2
+pub mod Signed
 pub mod Stretch
 pub mod Five
 pub mod Sixteen
