@@ -6,5 +6,6 @@ pub mod Served
 pub mod Demand2
 pub mod Signed
 pub mod Stretch
+pub mod Sealing
 pub mod Five
 pub mod Sixteen
