@@ -1,0 +1,34 @@
+use Prim.Native.Nat.{_-_, _≤_}
+use mathlib.Core.Path.{_≡_}
+use lib.ListN.{length}
+use borrow.Author.Needs.{needs}
+use Rattle.stun.proofs.lines.all.Statement.{statement}
+use Rattle.stun.proofs.lines.all.Tie as tie
+
+abbrev Inv-loop : tie.InvT-loop
+Inv-loop job key input₀ raw₀ buf₀ w₀ s₀ left₀ input raw buf w s left = (length input ≡ length input₀) × (length raw ≡ length raw₀) × (length buf ≡ length buf₀)
+
+abbrev μ-loop : tie.MeasureT-loop
+μ-loop job key input₀ raw₀ buf₀ w₀ s₀ left₀ input raw buf w s left = left
+
+pub all-spec : {M : Type 1} → statement M
+all-spec =
+    tie.close
+    (tie.spec
+    Inv-loop
+    μ-loop
+    (λ c κs. search needs)
+    (λ c κs. search needs)
+    (λ c κs. search needs)
+    (λ c. search needs)
+    (λ c κs. search needs)
+    (λ c κs. search needs)
+    (λ c. search needs)
+    (λ c. search needs)
+    (λ c. search needs)
+    (λ c κs. search needs)
+    (λ c κs. search needs)
+    (λ c. search needs)
+    (λ c. search needs)
+    (λ c. search needs)
+    (λ c. search needs))

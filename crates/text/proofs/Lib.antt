@@ -1,0 +1,5 @@
+mod Digits
+mod Places
+mod Laying
+mod Values
+mod Determined
