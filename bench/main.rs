@@ -5,14 +5,16 @@ mod plain;
 mod reader;
 mod sha;
 mod utf8;
+mod worst;
 
 fn main() {
     let wanted: Vec<String> = std::env::args().skip(1).collect();
-    let parts: [(&str, fn()); 4] = [
+    let parts: [(&str, fn()); 5] = [
         ("crc32", crc32::run),
         ("sha", sha::run),
         ("utf8", utf8::run),
         ("reader", reader::run),
+        ("worst", worst::run),
     ];
     measure::head();
     for (name, part) in parts {

@@ -57,7 +57,7 @@ extern "C" {
     fn stun_agent_validate(agent: *mut Agent, m: *mut Message, b: *const u8, n: usize, validater: *const c_void, data: *mut c_void) -> c_int;
 }
 
-fn ours(d: &[u8]) -> Said {
+pub fn ours(d: &[u8]) -> Said {
     unsafe { bench_read(d.as_ptr(), d.len()) }
 }
 
@@ -77,7 +77,7 @@ fn libnice(a: &mut Agent, d: &[u8]) -> bool {
     unsafe { stun_agent_validate(a, &mut m, d.as_ptr(), d.len(), std::ptr::null(), null_mut()) == SUCCESS }
 }
 
-fn attribute(d: &mut Vec<u8>, kind: u16, value: &[u8]) {
+pub fn attribute(d: &mut Vec<u8>, kind: u16, value: &[u8]) {
     d.extend(kind.to_be_bytes());
     d.extend((value.len() as u16).to_be_bytes());
     d.extend(value);
@@ -86,7 +86,7 @@ fn attribute(d: &mut Vec<u8>, kind: u16, value: &[u8]) {
     d[2..4].copy_from_slice(&body.to_be_bytes());
 }
 
-fn fingerprint(d: &mut Vec<u8>) {
+pub fn fingerprint(d: &mut Vec<u8>) {
     let p = d.len();
     attribute(d, 0x8028, &[0; 4]);
     let sum = unsafe { bench_crc32(d.as_ptr(), p) } ^ 0x5354_554E;
@@ -94,19 +94,24 @@ fn fingerprint(d: &mut Vec<u8>) {
 }
 
 /// A header without attributes.
-fn header(kind: u16) -> Vec<u8> {
+pub fn header(kind: u16) -> Vec<u8> {
     let mut d = kind.to_be_bytes().to_vec();
     d.extend([0, 0, 0x21, 0x12, 0xA4, 0x42]);
     d.extend(0..12);
     d
 }
 
-/// A Binding response of 100 bytes with SOFTWARE, XOR-MAPPED-ADDRESS, MESSAGE-INTEGRITY and FINGERPRINT.
+/// SOFTWARE, XOR-MAPPED-ADDRESS and MESSAGE-INTEGRITY.
+pub fn usual(d: &mut Vec<u8>) {
+    attribute(d, 0x8022, b"a server of thirty bytes, 1.00");
+    attribute(d, 0x0020, &[0, 1, 0xA1, 0x47, 0xE1, 0x12, 0xA6, 0x43]);
+    attribute(d, 0x0008, &[0xA5; 20]);
+}
+
+/// A Binding response of 100 bytes with these and FINGERPRINT.
 fn response() -> Vec<u8> {
     let mut d = header(0x0101);
-    attribute(&mut d, 0x8022, b"a server of thirty bytes, 1.00");
-    attribute(&mut d, 0x0020, &[0, 1, 0xA1, 0x47, 0xE1, 0x12, 0xA6, 0x43]);
-    attribute(&mut d, 0x0008, &[0xA5; 20]);
+    usual(&mut d);
     fingerprint(&mut d);
     d
 }

@@ -3,3 +3,4 @@ pub mod Walk
 pub mod Multiple
 pub mod Waits
 mod Determined
+mod Multiplied

@@ -24,15 +24,15 @@ at-one = refl
 
 multiple : (z : ℕ) → z < 2 ^ 32 → bitSteps 300 z ≡ lower z
 multiple z h =
-    sym (product-steps 300 z h) ∙ ap (λ (m : ℕ). times 32 z m 0) at-one ∙ two (bitXor (p 155) (p 117)) (bitXor (p 89) (p 0))
+    sym (product-steps 300 z h) ∙ ap (times 32 z) at-one ∙ two (bitXor (p 155) (p 117)) (bitXor (p 89) (p 0))
     ∙ ap₂ bitXor (two (p 155) (p 117) ∙ ap₂ bitXor (product-steps 155 z h) (product-steps 117 z h))
     (two (p 89) (p 0) ∙ ap₂ bitXor (product-steps 89 z h) (product-steps 0 z h))
   where
     p : ℕ → ℕ
     p n = bitSteps n 0x8000_0000
 
-    two : (m n : ℕ) → times 32 z (bitXor m n) 0 ≡ bitXor (times 32 z m 0) (times 32 z n 0)
-    two m n = times-xor 32 z m n 0 0
+    two : (m n : ℕ) → times 32 z (bitXor m n) ≡ bitXor (times 32 z m) (times 32 z n)
+    two m n = times-xor 32 z m n h
 
 shift : (c j n x : ℕ) → n ≡ c + j → bitSteps n (x * 2 ^ c) ≡ bitSteps j x
 shift c j n x e = ap (λ (k : ℕ). bitSteps k (x * 2 ^ c)) e ∙ bitSteps-add c j (x * 2 ^ c) ∙ ap (bitSteps j) (bitSteps-shift c x)

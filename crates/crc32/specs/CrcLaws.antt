@@ -113,6 +113,12 @@ octets-suc n s =
     let e : 8 * suc n ≡ 8 + 8 * n = omega arith in
     ap (λ (k : ℕ). bitSteps k s) e ∙ bitSteps-add 8 (8 * n) s
 
+pub octets-add : (m n s : ℕ) → octets (m + n) s ≡ octets n (octets m s)
+unfolding octets
+octets-add m n s =
+    let e : 8 * (m + n) ≡ 8 * m + 8 * n = omega arith in
+    ap (λ (k : ℕ). bitSteps k s) e ∙ bitSteps-add (8 * m) (8 * n) s
+
 pub octets-xor : (n a b : ℕ) → octets n (bitXor a b) ≡ bitXor (octets n a) (octets n b)
 unfolding octets
 octets-xor n a b = bitSteps-xor (8 * n) a b
@@ -154,6 +160,13 @@ carried s t bs =
     ∙ octets-xor (length bs) (bitXor s (word bs)) t
     ∙ ap (λ (x : ℕ). bitXor x (octets (length bs) t)) (sym (at-once s bs))
 
+-- so bytes that are carried twice, with and without a change, tell what became of it
+pub apart : (s t : ℕ) (bs : List ℕ) → bitXor (bytesFrom (bitXor s t) bs) (bytesFrom s bs) ≡ octets (length bs) t
+apart s t bs =
+    let x : ℕ = bytesFrom s bs in
+    let y : ℕ = octets (length bs) t in
+    ap (λ (z : ℕ). bitXor z x) (carried s t bs ∙ xor-comm x y) ∙ xor-twice y x
+
 -- two registers and two lists of one length: the difference of what comes out is the difference of what went in, so many bytes on
 pub difference : (s t : ℕ) (v w : List ℕ) → length v ≡ length w
     → bitXor (bytesFrom s v) (bytesFrom t w) ≡ octets (length v) (bitXor (bitXor s t) (bitXor (word v) (word w)))
@@ -190,7 +203,7 @@ patched s pre v w post e =
 -- ---- bytes as a number
 
 -- a byte and what stands above it
-low-byte : (b w : ℕ) → b < 256 → bitXor b (w * 2 ^ 8) ≡ w * 256 + b
+pub low-byte : (b w : ℕ) → b < 256 → bitXor b (w * 2 ^ 8) ≡ w * 256 + b
 low-byte b w h = xor-comm b (w * 2 ^ 8) ∙ xor-shifted w 8 b h
 
 pub word-lt : (n : ℕ) (w : List ℕ) → Bytes w → length w ≤ n → word w < 256 ^ n

@@ -13,7 +13,7 @@ unfoldable pub word : List ℕ → ℕ
 word [] = 0
 word (b ∷ bs) = bitXor b (word bs * 2 ^ 8)
 
--- a product by Horner: k digits of t, the lowest first, each of which adds m to what is a step further on
-unfoldable pub times : ℕ → ℕ → ℕ → ℕ → ℕ
-times zero t m a = a
-times (suc k) t m a = times k (t / 2) m (bitXor (bitStep a) (t % 2 * m))
+-- a product: k digits of t, the highest of 32 first, each of which adds what m has come to, a step further on each time
+unfoldable pub times : ℕ → ℕ → ℕ → ℕ
+times zero t m = 0
+times (suc k) t m = bitXor (t / 2 ^ 31 * m) (times k (t % 2 ^ 31 * 2) (bitStep m))

@@ -1,10 +1,10 @@
 // CRC-32/ISO-HDLC: the register carried over bytes, so that a sum can be taken in parts, and the whole sum.
 ghost use mathlib.Core.Path.{_≡_};
-ghost use Prim.Native.Nat.{suc, _+_, _*_, _≤_, _<_, _%_};
+ghost use Prim.Native.Nat.{suc, _+_, _*_, _/_, _^_, _≤_, _<_, _%_};
 ghost use lib.Bits.{bitXor};
 ghost use lib.ListN.{length};
 ghost use Rattle.crc32.specs.Crc.{bytesFrom, finished, crc32Of};
-ghost use Rattle.crc32.specs.Octets.{octets, word};
+ghost use Rattle.crc32.specs.Octets.{octets, word, times};
 ghost use Rattle.crc32.specs.Rows.{Rows};
 ghost use Rattle.crc32.specs.Waits.{register, folded, Fits};
 
@@ -39,6 +39,39 @@ pub fn crc32(s: &[u8]) -> u32
     ensures { λ r. ⌜ r ≡ crc32Of (now (s .entry)) ⌝ }
 {
     finish(update(START, s))
+}
+
+// ---- many steps at once
+
+// `m`, added where the highest digit of `t` is set.
+fn added(a: u32, t: u32, m: u32) -> u32
+    ensures { λ r. ⌜ r ≡ bitXor a (t / 2 ^ 31 * m) ⌝ }
+{
+    if t < 0x8000_0000 {
+        return a;
+    }
+    a ^ m
+}
+
+// A product of registers: where `m` is what so many bytes that are nought make of 0x8000_0000, what they make of `t`. It ends
+// with the lowest digit of `t` that is set.
+pub fn product(t: u32, m: u32) -> u32
+    ensures { λ r. ⌜ r ≡ times 32 t m ⌝ }
+{
+    let mut a: u32 = 0;
+    let mut t = t;
+    let mut m = m;
+    let mut k: u32 = 32;
+    while 0 < k {
+        if t == 0 {
+            return a;
+        }
+        a = added(a, t, m);
+        t = t % 0x8000_0000 * 2;
+        m = (m % 2 * 0xEDB88320) ^ (m / 2);
+        k -= 1;
+    }
+    a
 }
 
 // ---- by half bytes

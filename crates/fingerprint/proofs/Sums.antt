@@ -14,13 +14,7 @@ use Rattle.numbers.specs.NumbersLaws.{four-at}
 use Rattle.crc32.specs.Crc.{bytesFrom, finished, crc32Of}
 use Rattle.crc32.specs.CrcLaws.{bytesFrom-append}
 use Rattle.fingerprint.specs.Fingerprint.{fingerprintAt, printed}
-
--- the front with another length, part by part
-parts : (d : List ℕ) (p n : ℕ) → 20 ≤ p → p ≤ length d → withLength (take p d) n ≡ take 2 d ++ two n ++ take (p - 4) (drop 4 d)
-unfolding withLength laid
-parts d p n h l =
-    laid-is (take p d) 2 (two n) (simp length-take (omega arith))
-    ∙ ap₂ {C = List ℕ} (λ u v. u ++ two n ++ v) (take-take 2 p d (omega arith)) (drop-take 4 p d)
+use Rattle.fingerprint.specs.RegisterLaws.{parts}
 
 pub summed : (d : List ℕ) (p : ℕ) {a b c r : ℕ} → 20 ≤ p → p ≤ length d → a ≡ bytesFrom 0xFFFF_FFFF (take 2 d)
     → b ≡ bytesFrom a (two (p - 20 + 8)) → c ≡ bytesFrom b (take (p - 4) (drop 4 d)) → r ≡ finished c → bitXor r 0x5354554E ≡ fingerprintAt d p
@@ -33,7 +27,7 @@ summed d p {a} {b} {c} {r} h l e f g i =
     ∙ ap (λ (x : ℕ). bytesFrom x s) (bytesFrom-append 0xFFFF_FFFF (take 2 d) (two n) ∙ ap (λ (x : ℕ). bytesFrom x (two n)) (sym e) ∙ sym f)
     ∙ sym g
     in
-    ap (λ (x : ℕ). bitXor x 0x5354554E) (i ∙ ap finished (sym q ∙ ap (bytesFrom 0xFFFF_FFFF) (sym (parts d p n h l))))
+    ap (λ (x : ℕ). bitXor x 0x5354554E) (i ∙ ap finished (sym q ∙ ap (bytesFrom 0xFFFF_FFFF) (sym (parts d p n (omega arith) l))))
 
 -- a length that stands there already changes nothing
 pub as-it-stands : (d : List ℕ) → ((i : ℕ) → getD d i 0 < 256) → (p : ℕ) {u r : ℕ} → 20 ≤ p → p ≤ length d
@@ -51,7 +45,7 @@ as-it-stands d bs p {u} {r} h l e f g =
     in
     let q : p - 0 ≡ 4 + (p - 4) = omega arith in
     let same : take (p - 0) d ≡ withLength (take p d) n =
-    ap (λ (k : ℕ). take k d) q ∙ take-add 4 (p - 4) d ∙ ap (λ (x : List ℕ). x ++ take (p - 4) (drop 4 d)) start ∙ sym (parts d p n h l)
+    ap (λ (k : ℕ). take k d) q ∙ take-add 4 (p - 4) d ∙ ap (λ (x : List ℕ). x ++ take (p - 4) (drop 4 d)) start ∙ sym (parts d p n (omega arith) l)
     in
     ap (λ (x : ℕ). bitXor x 0x5354554E) (g ∙ ap crc32Of same)
 

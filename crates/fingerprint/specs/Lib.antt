@@ -1,2 +1,4 @@
 pub mod Fingerprint
+pub mod Register
+pub mod RegisterLaws
 pub mod StretchLaws

@@ -1,5 +1,6 @@
 mod Faults
 mod Fronts
+mod Runs
 mod Scans
 mod Answers
 mod Determined

@@ -14,6 +14,8 @@ use Rattle.attribute.specs.declared.Scan.the-variants.{Fault}
 use Rattle.rfc5389.specs.Rows.{rfc5389}
 use Rattle.rfc5389.specs.Fault.{fault}
 use Rattle.message.specs.Reading.{printFault, valueFaults, printFaults}
+use Rattle.message.specs.Running.{Ran}
+use Rattle.message.specs.declared.Running.{Running}
 
 -- a fault that code has found goes on or decides: over the fault
 module _ (f : ℕ → Attr → ℕ) {d : List ℕ} {at n q k v s x : ℕ} {w : Walk} (g : Scanning f d at n) (i : w ≡ Attribute q k v s x) (e : w ≡ stepAt d at)
@@ -39,6 +41,9 @@ module _ {d : List ℕ} {at n q k v s x : ℕ} {w : Walk} (g : Scanning (valueFa
 module _ {d : List ℕ} {at n q k v s x : ℕ} {w : Walk} (g : Scanning (printFaults d) d at n) (i : w ≡ Attribute q k v s x) (e : w ≡ stepAt d at) where
   pub print-room : at + 4 + s ≤ length d
   print-room = omega (arith, inside g i e)
+
+  pub ran-on : {r : Running} → Ran d r at → Ran d r x
+  ran-on h = record { right = h .right; behind = omega (arith, h .behind, inside g i e); short = h .short }
 
   module _ {r : ℕ} (z : r ≡ printFault d at k (take s (drop (at + 4) d))) where
     print : r ≡ printFaults d at (found d k v s x)

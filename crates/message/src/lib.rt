@@ -1,11 +1,14 @@
 // The reader: any bytes in; whole, broken or refused out.
 ghost use mathlib.Core.Path.{_≡_};
-ghost use Prim.Native.Nat.{_+_, _≤_, _<_};
+ghost use Prim.Native.Nat.{_+_, _-_, _≤_, _<_};
 ghost use lib.ListN.{length, take, drop};
 ghost use Rattle.attribute.specs.Scan.{scanned};
 ghost use Rattle.attribute.specs.ScanLaws.{Scanning};
 ghost use Rattle.rfc5389.specs.Rows.{rfc5389};
+ghost use Rattle.fingerprint.specs.Fingerprint.{printed};
+ghost use Rattle.fingerprint.specs.Register.{field};
 ghost use Rattle.message.specs.Front.{pastOf};
+ghost use Rattle.message.specs.Running.{runningAt, relengthOf, Ran};
 ghost use Rattle.message.specs.Reading.{printFault, valueFaults, printFaults, outcome, readingOf};
 use attribute::Scan;
 use attribute::Walk;
@@ -135,24 +138,132 @@ fn values(d: &[u8]) -> Found
     }
 }
 
+// The register over the first `upto` bytes, with `length` in the length field, and what so many bytes that are nought make of
+// 0x8000_0000: so each FINGERPRINT goes on where the one before it stopped.
+struct Running {
+    upto: usize,
+    length: u16,
+    sum: u32,
+    power: u32,
+}
+
+// The value that a FINGERPRINT owes, and how far the register has gone.
+struct Summed {
+    value: u32,
+    run: Running,
+}
+
+// What is wrong with an attribute as a FINGERPRINT, and how far the register has gone.
+struct Verdict {
+    fault: u8,
+    run: Running,
+}
+
+// The type number, and a length of nought.
+fn begun(d: &[u8]) -> Running
+    requires { ⌜ 4 ≤ length (now d) ⌝ }
+    ensures { λ r. ⌜ r ≡ runningAt (now (d .entry)) 4 0 ⌝ }
+{
+    let none = [0u8, 0u8];
+    let a = crc32::update(crc32::START, &d[0..2]);
+    Running {
+        upto: 4,
+        length: 0,
+        sum: crc32::update(a, &none),
+        power: 0xEDB8_8320,
+    }
+}
+
+// Bytes carried twice, with and without the power, tell what became of it.
+fn carried(d: &[u8], run: Running, p: usize) -> Running
+    requires { ⌜ Ran (now d) run p × (4 ≤ run .upto) × (p ≤ length (now d)) ⌝ }
+    ensures { λ r. ⌜ r ≡ runningAt (now (d .entry)) p (run .length) ⌝ }
+{
+    let from = run.upto;
+    let s = &d[from..p];
+    let sum = crc32::update(run.sum, s);
+    let other = crc32::update(run.sum ^ run.power, s);
+    Running {
+        upto: p,
+        length: run.length,
+        sum,
+        power: other ^ sum,
+    }
+}
+
+// A length field as what it adds to a register.
+fn field_of(n: u16) -> u32
+    ensures { λ r. ⌜ r ≡ field n ⌝ }
+{
+    let n = n as u32;
+    (n % 256 * 256 + n / 256) * 65536
+}
+
+// Another number in the length field.
+fn relength(run: Running, n: u16) -> Running
+    ensures { λ r. ⌜ r ≡ relengthOf run n ⌝ }
+{
+    let change = field_of(n) ^ field_of(run.length);
+    Running {
+        upto: run.upto,
+        length: n,
+        sum: run.sum ^ crc32::product(change, run.power),
+        power: run.power,
+    }
+}
+
+// The register at p, with the length of a FINGERPRINT there.
+fn onward(d: &[u8], run: Running, p: usize) -> Running
+    requires { ⌜ Ran (now d) run p × (20 ≤ p) × (p ≤ length (now d)) × (p - 20 + 8 ≤ 65535) ⌝ }
+    ensures { λ r. ⌜ r ≡ runningAt (now (d .entry)) p (p - 20 + 8) ⌝ }
+{
+    let n = (p - 20 + 8) as u16;
+    if run.upto < 4 {
+        return relength(carried(d, begun(d), p), n);
+    }
+    relength(carried(d, run, p), n)
+}
+
+// A FINGERPRINT that ends the datagram is summed in one piece: the usual one is the only one.
+fn sum_at(d: &[u8], run: Running, p: usize) -> Summed
+    requires { ⌜ Ran (now d) run p × (20 ≤ p) × (p ≤ length (now d)) × (p - 20 + 8 ≤ 65535) ⌝ }
+    ensures value { λ r. ⌜ r .value ≡ printed (now (d .entry)) p ⌝ }
+    ensures run { λ r. ⌜ Ran (now (d .entry)) (r .run) p ⌝ }
+{
+    if d.len() - p == 8 {
+        return Summed {
+            value: fingerprint_at(d, p),
+            run,
+        };
+    }
+    let here = onward(d, run, p);
+    Summed {
+        value: crc32::finish(here.sum) ^ 0x5354554E,
+        run: here,
+    }
+}
+
 // What is wrong with the attribute at p as a FINGERPRINT: 0, 16 or 15; 0 where it is none.
-fn print_fault(d: &[u8], p: usize, kind: u16, size: usize) -> u8
-    requires { ⌜ (20 ≤ p) × (p + 4 + size ≤ length (now d)) ⌝ }
-    ensures { λ r. ⌜ r ≡ printFault (now (d .entry)) p kind (take size (drop (p + 4) (now (d .entry)))) ⌝ }
+fn print_fault(d: &[u8], run: Running, p: usize, kind: u16, size: usize) -> Verdict
+    requires { ⌜ Ran (now d) run p × (20 ≤ p) × (p + 4 + size ≤ length (now d)) ⌝ }
+    ensures fault { λ r. ⌜ r .fault ≡ printFault (now (d .entry)) p kind (take size (drop (p + 4) (now (d .entry)))) ⌝ }
+    ensures run { λ r. ⌜ Ran (now (d .entry)) (r .run) p ⌝ }
 {
     if kind != FINGERPRINT {
-        return 0;
+        return Verdict { fault: 0, run };
     }
     if 65535 < p - 20 + 8 {
-        return 16;
+        return Verdict { fault: 16, run };
     }
     if size != 4 {
-        return 15;
+        return Verdict { fault: 15, run };
     }
-    if u32_at(d, p + 4) == fingerprint_at(d, p) {
-        return 0;
+    let s = sum_at(d, run, p);
+    let run = s.run;
+    if u32_at(d, p + 4) == s.value {
+        return Verdict { fault: 0, run };
     }
-    15
+    Verdict { fault: 15, run }
 }
 
 // Each FINGERPRINT, from the first: none stands before `from`, and `before` attributes do.
@@ -162,6 +273,12 @@ fn prints(d: &[u8], from: usize, before: usize) -> Scan
 {
     let mut at = from;
     let mut count = before;
+    let mut run = Running {
+        upto: 0,
+        length: 0,
+        sum: crc32::START,
+        power: 0x8000_0000,
+    };
     loop {
         let w = step(d, at);
         let Walk::Attribute {
@@ -193,13 +310,14 @@ fn prints(d: &[u8], from: usize, before: usize) -> Scan
                 }
             }
         };
-        let f = print_fault(d, at, kind, size);
-        if f != 0 {
+        let v = print_fault(d, run, at, kind, size);
+        if v.fault != 0 {
             return Scan::Fault {
-                reason: f,
+                reason: v.fault,
                 place: at,
             };
         }
+        run = v.run;
         count += 1;
         at = next;
     }

@@ -4,19 +4,21 @@ use native.Mathlib.Omega.{arith}
 use lib.ListN.{length}
 use Rattle.attribute.specs.ScanLaws.{Scanning, passed, cut, less}
 use Rattle.message.specs.Reading.{printFaults}
-use Rattle.message.proofs.Scans.{print-room, print-on, print-decides}
+use Rattle.message.specs.Running.{Ran}
+use Rattle.message.proofs.Runs.{unbegun}
+use Rattle.message.proofs.Scans.{print-room, print-on, print-decides, ran-on}
 use borrow.Author.Needs.{needs}
 use Rattle.message.proofs.prints.Statement.{statement}
 use Rattle.message.proofs.prints.Tie as tie
 
 abbrev Inv-loop : tie.InvT-loop
-Inv-loop d from before at₀ count₀ at count = Scanning (printFaults d) d at count
+Inv-loop d from before at₀ count₀ run₀ at count run = Scanning (printFaults d) d at count × Ran d run at
 
 abbrev μ-loop : tie.MeasureT-loop
-μ-loop d from before at₀ count₀ at count = length d - at
+μ-loop d from before at₀ count₀ run₀ at count run = length d - at
 
 loop-holds : tie.Need-loop-holds Inv-loop μ-loop
-loop-holds c = c .before .pre
+loop-holds c = (c .before .pre, search (unbegun))
 
 returns : tie.Need-returns Inv-loop μ-loop
 returns c = search (passed)
@@ -28,7 +30,7 @@ returns-3 : tie.Need-returns-3 Inv-loop μ-loop
 returns-3 c = absurd (⊎-elim (λ w. omega (arith, c .before .match2 .keys3)) (λ w. omega (arith, c .before .match2 .keys3)) (c .before .before .match .keys2))
 
 print-fault-requires : tie.Need-print-fault-requires Inv-loop μ-loop
-print-fault-requires c κs = (search needs, search (print-room))
+print-fault-requires c κs = (search needs, search needs, search (print-room))
 
 returns-4 : tie.Need-returns-4 Inv-loop μ-loop
 returns-4 c = search (print-decides)
@@ -37,7 +39,7 @@ loop-less : tie.Need-loop-less Inv-loop μ-loop
 loop-less c = search (less)
 
 loop-again : tie.Need-loop-again Inv-loop μ-loop
-loop-again c = search (print-on)
+loop-again c = (search (print-on), search (ran-on))
 
 pub prints-spec : {M : Type 1} → statement M
 prints-spec =
