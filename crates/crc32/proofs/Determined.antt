@@ -4,12 +4,15 @@ use mathlib.Core.List.{List}
 use Rattle.base.specs.Determined.{Determines, by}
 use Rattle.crc32.specs.Crc.{bytesFrom, finished, crc32Of}
 use Rattle.crc32.specs.Octets.{times}
+use Rattle.crc32.specs.Rows.{fourBy}
 use Rattle.crc32.proofs.update.Kinds as update
 use Rattle.crc32.proofs.update.Reads as update-reads
 use Rattle.crc32.proofs.finish.Kinds as finish
 use Rattle.crc32.proofs.finish.Reads as finish-reads
 use Rattle.crc32.proofs.crc32.Kinds as crc32
 use Rattle.crc32.proofs.crc32.Reads as crc32-reads
+use Rattle.crc32.proofs.four_by.Kinds as four-by
+use Rattle.crc32.proofs.four_by.Reads as four-by-reads
 use Rattle.crc32.proofs.product.Kinds as product
 use Rattle.crc32.proofs.product.Reads as product-reads
 
@@ -26,3 +29,7 @@ determined-crc32 = by crc32.ps crc32.r crc32-reads.Asked crc32-reads.Learnt _ _ 
 pub determined-product : Determines product.ps product.r {I = ℕ × ℕ} {A = ℕ} product-reads.Asked product-reads.Learnt (λ κs a. (a .0, a .1 .0))
     (λ κs z e. z)
 determined-product = by product.ps product.r product-reads.Asked product-reads.Learnt _ _ (λ x. times 32 (x .0) (x .1)) (λ κs a y d i q. q)
+
+pub determined-four-by : Determines four-by.ps four-by.r {I = List ℕ × ℕ} {A = ℕ} four-by-reads.Asked four-by-reads.Learnt
+    (λ κs a. (a .0 .now, a .1 .0)) (λ κs z e. z)
+determined-four-by = by four-by.ps four-by.r four-by-reads.Asked four-by-reads.Learnt _ _ (λ x. fourBy (x .0) (x .1)) (λ κs a y d i q. q)

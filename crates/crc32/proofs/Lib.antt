@@ -1,6 +1,6 @@
-pub mod Table
 pub mod Walk
 pub mod Multiple
 pub mod Waits
 mod Determined
 mod Multiplied
+mod Halves

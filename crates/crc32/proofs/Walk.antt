@@ -13,7 +13,8 @@ use Rattle.base.specs.Bytes.{bytes, take-bytes, drop-bytes}
 use Rattle.base.specs.Xor.{xor-assoc}
 use Rattle.crc32.specs.Crc.{bitSteps, byteStep, bytesFrom}
 use Rattle.crc32.specs.Octets.{octets, word}
-use Rattle.crc32.specs.CrcLaws.{bitSteps-zero, bitSteps-split, octets-suc, octets-xor, bytesFrom-append, at-once, word-lt}
+use Rattle.crc32.specs.CrcLaws.{bitSteps-zero, bitSteps-split, bytesFrom-append, at-once, word-lt}
+use Rattle.crc32.specs.RowsLaws.{peel}
 
 -- ---- the register over a slice
 
@@ -106,11 +107,6 @@ pub stepped-start : (n x : ℕ) → x < 2 ^ 32 → Stepped n x 0 x n
 stepped-start n x h =
     let q : 8 * (n + 4 - n) ≡ 32 = omega arith in
     record { few = omega arith; enough = omega arith; small = rw q h; same = xor-zero-l (octets n x) }
-
-peel : (j y : ℕ) → octets (suc j) y ≡ bitXor (octets (suc j) (y % 256)) (octets j (y / 256))
-peel j y =
-    octets-suc j y ∙ ap (octets j) (bitSteps-split 8 y) ∙ octets-xor j (bitSteps 8 (y % 256)) (y / 256)
-    ∙ ap (λ (z : ℕ). bitXor z (octets j (y / 256))) (sym (octets-suc j (y % 256)))
 
 pub step-turn : {n x a y k v : ℕ} → Stepped n x a y k → n - 4 < k → v ≡ octets (suc (k - 1)) (y % 256) → Stepped n x (bitXor a v) (y / 256) (k - 1)
 step-turn {n} {x} {a} {y} {k} {v} g h e =

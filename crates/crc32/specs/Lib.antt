@@ -4,4 +4,5 @@ pub mod CrcLaws
 pub mod ProductLaws
 pub mod BurstLaws
 pub mod Rows
+pub mod RowsLaws
 pub mod Waits

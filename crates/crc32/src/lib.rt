@@ -5,10 +5,10 @@ ghost use lib.Bits.{bitXor};
 ghost use lib.ListN.{length};
 ghost use Rattle.crc32.specs.Crc.{bytesFrom, finished, crc32Of};
 ghost use Rattle.crc32.specs.Octets.{octets, word, times};
-ghost use Rattle.crc32.specs.Rows.{Rows};
+ghost use Rattle.crc32.specs.Rows.{Rows, halves, fourBy};
 ghost use Rattle.crc32.specs.Waits.{register, folded, Fits};
 
-mod tables;
+pub mod tables;
 
 // Where a sum starts. A sum of several parts is `finish(update(update(START, one), other))`.
 pub const START: u32 = 0xFFFF_FFFF;
@@ -76,14 +76,27 @@ pub fn product(t: u32, m: u32) -> u32
 
 // ---- by half bytes
 
-// What the low byte of `x` becomes by its own steps and those of the `k` bytes behind it.
+// The low byte of `x` by its halves, with the steps of the `k` bytes behind it.
 fn look(t: &[u32], k: usize, x: u32) -> u32
-    requires { ⌜ Rows (now t) × (k * 32 + 32 ≤ length (now t)) × (k < 8) ⌝ }
-    ensures { λ r. ⌜ r ≡ octets (suc k) (x % 256) ⌝ }
+    requires { ⌜ (k * 32 + 32 ≤ length (now t)) × (k < 8) ⌝ }
+    ensures { λ r. ⌜ r ≡ halves (now (t .entry)) k x ⌝ }
 {
     let high = k * 32 + ((x / 16 % 16) as usize);
     let low = k * 32 + 16 + ((x % 16) as usize);
     t[low] ^ t[high]
+}
+
+// The steps of four bytes by a table that the caller lends, `tables::SIXTEEN_ROWS` or the first half of it: for one who takes few
+// steps at a time, many times.
+pub fn four_by(t: &[u32], x: u32) -> u32
+    ensures { λ r. ⌜ r ≡ fourBy (now (t .entry)) x ⌝ }
+{
+    if t.len() < 128 {
+        return 0;
+    }
+    let a = look(t, 3, x) ^ look(t, 2, x / 256);
+    let b = look(t, 1, x / 65536) ^ look(t, 0, x / 16777216);
+    a ^ b
 }
 
 // A byte a turn.

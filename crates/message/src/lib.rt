@@ -5,6 +5,8 @@ ghost use lib.ListN.{length, take, drop};
 ghost use Rattle.attribute.specs.Scan.{scanned};
 ghost use Rattle.attribute.specs.ScanLaws.{Scanning};
 ghost use Rattle.rfc5389.specs.Rows.{rfc5389};
+ghost use Rattle.crc32.specs.Octets.{word};
+ghost use Rattle.crc32.specs.Rows.{Rows};
 ghost use Rattle.fingerprint.specs.Fingerprint.{printed};
 ghost use Rattle.fingerprint.specs.Register.{field};
 ghost use Rattle.message.specs.Front.{pastOf};
@@ -191,6 +193,37 @@ fn carried(d: &[u8], run: Running, p: usize) -> Running
     }
 }
 
+// Four bytes as a number, the first lowest.
+fn low_word(d: &[u8], at: usize) -> u32
+    requires { ⌜ at + 4 ≤ length (now d) ⌝ }
+    ensures { λ r. ⌜ r ≡ word (take 4 (drop at (now (d .entry)))) ⌝ }
+{
+    let x = u32_at(d, at);
+    x / 16777216 + x / 65536 % 256 * 256 + x / 256 % 256 * 65536 + x % 256 * 16777216
+}
+
+// The same by a lent table, four bytes a turn: for the few bytes between two FINGERPRINTs.
+fn words(t: &[u32], d: &[u8], run: Running, p: usize) -> Running
+    requires { ⌜ Rows (now t) × (128 ≤ length (now t)) × Ran (now d) run p × (4 ≤ run .upto) × (p ≤ length (now d)) ⌝ }
+    ensures { λ r. ⌜ Ran (now (d .entry)) r p × (4 ≤ r .upto) ⌝ }
+{
+    let length = run.length;
+    let mut at = run.upto;
+    let mut sum = run.sum;
+    let mut power = run.power;
+    while 4 <= p - at {
+        sum = crc32::four_by(t, sum ^ low_word(d, at));
+        power = crc32::four_by(t, power);
+        at += 4;
+    }
+    Running {
+        upto: at,
+        length,
+        sum,
+        power,
+    }
+}
+
 // A length field as what it adds to a register.
 fn field_of(n: u16) -> u32
     ensures { λ r. ⌜ r ≡ field n ⌝ }
@@ -212,21 +245,38 @@ fn relength(run: Running, n: u16) -> Running
     }
 }
 
+// The register as far as p: few bytes by the table, many by themselves.
+fn gone(t: &[u32], d: &[u8], run: Running, p: usize) -> Running
+    requires { ⌜ Rows (now t) × Ran (now d) run p × (20 ≤ p) × (p ≤ length (now d)) ⌝ }
+    ensures { λ r. ⌜ Ran (now (d .entry)) r p × (p ≤ r .upto) ⌝ }
+{
+    if run.upto < 4 {
+        return carried(d, begun(d), p);
+    }
+    if 64 < p - run.upto {
+        return carried(d, run, p);
+    }
+    if t.len() < 128 {
+        return carried(d, run, p);
+    }
+    let near = words(t, d, run, p);
+    if near.upto == p {
+        return near;
+    }
+    carried(d, near, p)
+}
+
 // The register at p, with the length of a FINGERPRINT there.
-fn onward(d: &[u8], run: Running, p: usize) -> Running
-    requires { ⌜ Ran (now d) run p × (20 ≤ p) × (p ≤ length (now d)) × (p - 20 + 8 ≤ 65535) ⌝ }
+fn onward(t: &[u32], d: &[u8], run: Running, p: usize) -> Running
+    requires { ⌜ Rows (now t) × Ran (now d) run p × (20 ≤ p) × (p ≤ length (now d)) × (p - 20 + 8 ≤ 65535) ⌝ }
     ensures { λ r. ⌜ r ≡ runningAt (now (d .entry)) p (p - 20 + 8) ⌝ }
 {
-    let n = (p - 20 + 8) as u16;
-    if run.upto < 4 {
-        return relength(carried(d, begun(d), p), n);
-    }
-    relength(carried(d, run, p), n)
+    relength(gone(t, d, run, p), (p - 20 + 8) as u16)
 }
 
 // A FINGERPRINT that ends the datagram is summed in one piece: the usual one is the only one.
-fn sum_at(d: &[u8], run: Running, p: usize) -> Summed
-    requires { ⌜ Ran (now d) run p × (20 ≤ p) × (p ≤ length (now d)) × (p - 20 + 8 ≤ 65535) ⌝ }
+fn sum_at(t: &[u32], d: &[u8], run: Running, p: usize) -> Summed
+    requires { ⌜ Rows (now t) × Ran (now d) run p × (20 ≤ p) × (p ≤ length (now d)) × (p - 20 + 8 ≤ 65535) ⌝ }
     ensures value { λ r. ⌜ r .value ≡ printed (now (d .entry)) p ⌝ }
     ensures run { λ r. ⌜ Ran (now (d .entry)) (r .run) p ⌝ }
 {
@@ -236,7 +286,7 @@ fn sum_at(d: &[u8], run: Running, p: usize) -> Summed
             run,
         };
     }
-    let here = onward(d, run, p);
+    let here = onward(t, d, run, p);
     Summed {
         value: crc32::finish(here.sum) ^ 0x5354554E,
         run: here,
@@ -244,8 +294,8 @@ fn sum_at(d: &[u8], run: Running, p: usize) -> Summed
 }
 
 // What is wrong with the attribute at p as a FINGERPRINT: 0, 16 or 15; 0 where it is none.
-fn print_fault(d: &[u8], run: Running, p: usize, kind: u16, size: usize) -> Verdict
-    requires { ⌜ Ran (now d) run p × (20 ≤ p) × (p + 4 + size ≤ length (now d)) ⌝ }
+fn print_fault(t: &[u32], d: &[u8], run: Running, p: usize, kind: u16, size: usize) -> Verdict
+    requires { ⌜ Rows (now t) × Ran (now d) run p × (20 ≤ p) × (p + 4 + size ≤ length (now d)) ⌝ }
     ensures fault { λ r. ⌜ r .fault ≡ printFault (now (d .entry)) p kind (take size (drop (p + 4) (now (d .entry)))) ⌝ }
     ensures run { λ r. ⌜ Ran (now (d .entry)) (r .run) p ⌝ }
 {
@@ -258,7 +308,7 @@ fn print_fault(d: &[u8], run: Running, p: usize, kind: u16, size: usize) -> Verd
     if size != 4 {
         return Verdict { fault: 15, run };
     }
-    let s = sum_at(d, run, p);
+    let s = sum_at(t, d, run, p);
     let run = s.run;
     if u32_at(d, p + 4) == s.value {
         return Verdict { fault: 0, run };
@@ -267,8 +317,8 @@ fn print_fault(d: &[u8], run: Running, p: usize, kind: u16, size: usize) -> Verd
 }
 
 // Each FINGERPRINT, from the first: none stands before `from`, and `before` attributes do.
-fn prints(d: &[u8], from: usize, before: usize) -> Scan
-    requires { ⌜ Scanning (printFaults (now d)) (now d) from before ⌝ }
+fn prints(t: &[u32], d: &[u8], from: usize, before: usize) -> Scan
+    requires { ⌜ Rows (now t) × Scanning (printFaults (now d)) (now d) from before ⌝ }
     ensures { λ r. ⌜ r ≡ scanned (printFaults (now (d .entry))) (now (d .entry)) ⌝ }
 {
     let mut at = from;
@@ -310,7 +360,7 @@ fn prints(d: &[u8], from: usize, before: usize) -> Scan
                 }
             }
         };
-        let v = print_fault(d, run, at, kind, size);
+        let v = print_fault(t, d, run, at, kind, size);
         if v.fault != 0 {
             return Scan::Fault {
                 reason: v.fault,
@@ -321,6 +371,18 @@ fn prints(d: &[u8], from: usize, before: usize) -> Scan
         count += 1;
         at = next;
     }
+}
+
+// Making the table pays where more than one FINGERPRINT may follow.
+fn printed_from(d: &[u8], front: Front) -> Scan
+    requires { ⌜ Scanning (printFaults (now d)) (now d) (front .at) (front .count) ⌝ }
+    ensures { λ r. ⌜ r ≡ scanned (printFaults (now (d .entry))) (now (d .entry)) ⌝ }
+{
+    if d.len() - front.at <= 8 {
+        return prints(&[], d, front.at, front.count);
+    }
+    let t = crc32::tables::SIXTEEN_ROWS;
+    prints(&t, d, front.at, front.count)
 }
 
 // Values first; FINGERPRINTs only where all of those pass.
@@ -337,7 +399,7 @@ fn judged(d: &[u8]) -> Scan
         } => s,
         Scan::Passed { count: _ } => {
             let front = j.front;
-            prints(d, front.at, front.count)
+            printed_from(d, front)
         }
     }
 }

@@ -3,6 +3,7 @@ use Prim.Native.Nat.{_-_}
 use native.Mathlib.Omega.{arith}
 use lib.ListN.{length}
 use Rattle.crc32.proofs.Walk.{Walked, walked-start, byte-turn, walked-done}
+use Rattle.crc32.proofs.Halves.{looked}
 use borrow.Author.Needs.{needs}
 use Rattle.crc32.proofs.bytes.Statement.{statement}
 use Rattle.crc32.proofs.bytes.Tie as tie
@@ -22,7 +23,7 @@ cast-b c = omega (arith, c .shared-slice-known3 .given (c .before .before .loop 
 loop-again : tie.Need-loop-again Inv-loop μ-loop
 loop-again c =
     byte-turn (c .before .before .before .loop .inv) (search needs)
-    (omega (arith, c .before .shared-slice-known3 .given (c .before .before .before .loop .i))) (c .look .ensures)
+    (omega (arith, c .before .shared-slice-known3 .given (c .before .before .before .loop .i))) (looked _ _ _ (search needs) (search needs) (c .look .ensures))
 
 returns : tie.Need-returns Inv-loop μ-loop
 returns c = search (walked-done)

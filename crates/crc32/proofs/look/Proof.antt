@@ -1,11 +1,11 @@
 -- Both halves of a byte stand in the rows of its place.
-use Rattle.crc32.proofs.Table.{look-is}
+use Rattle.crc32.proofs.Halves.{halves-are}
 use borrow.Author.Needs.{needs}
 use Rattle.crc32.proofs.look.Statement.{statement}
 use Rattle.crc32.proofs.look.Tie as tie
 
 returns : tie.Need-returns
-returns c = search (look-is)
+returns c = search (halves-are)
 
 pub look-spec : {M : Type 1} → statement M
 look-spec =

@@ -1,5 +1,6 @@
 -- Four look-ups, a byte a turn from the lowest.
 use Rattle.crc32.proofs.Walk.{Stepped, stepped-start, step-turn, stepped-done}
+use Rattle.crc32.proofs.Halves.{looked}
 use borrow.Author.Needs.{needs}
 use Rattle.crc32.proofs.steps.Statement.{statement}
 use Rattle.crc32.proofs.steps.Tie as tie
@@ -14,7 +15,7 @@ loop-holds : tie.Need-loop-holds Inv-loop μ-loop
 loop-holds c = stepped-start _ _ (search needs)
 
 loop-again : tie.Need-loop-again Inv-loop μ-loop
-loop-again c = search (step-turn)
+loop-again c = step-turn (c .before .before .loop .inv) (search needs) (looked _ _ _ (search needs) (search needs) (c .look .ensures))
 
 returns : tie.Need-returns Inv-loop μ-loop
 returns c = search (stepped-done)

@@ -1,6 +1,6 @@
 -- Both tables pass the test of their rule.
 use Rattle.crc32.specs.Crc.{bitStep, bitSteps}
-use Rattle.crc32.proofs.Table.{rows}
+use Rattle.crc32.specs.RowsLaws.{rows}
 use borrow.Author.Needs.{needs}
 use Rattle.crc32.proofs.update.Statement.{statement}
 use Rattle.crc32.proofs.update.Tie as tie

@@ -15,13 +15,13 @@ returns-3 c = (search (sized), search needs)
 
 returns-4 : tie.Need-returns-4
 returns-4 c =
-    let bs = c .before .before .before .before .before .before .before .before .shared-slice-known .given in
-    (search (right (c .before .before .before .before .before .before .before .before .before .args .d .now) (λ i. omega (arith, bs i))), search needs)
+    let bs = c .before .before .before .before .before .before .before .before .shared-slice-known2 .given in
+    (search (right (c .before .before .before .before .before .before .before .before .before .before .args .d .now) (λ i. omega (arith, bs i))), search needs)
 
 returns-5 : tie.Need-returns-5
 returns-5 c =
-    let bs = c .before .before .before .before .before .before .before .before .shared-slice-known .given in
-    (search (wrong (c .before .before .before .before .before .before .before .before .before .args .d .now) (λ i. omega (arith, bs i))), search needs)
+    let bs = c .before .before .before .before .before .before .before .before .shared-slice-known2 .given in
+    (search (wrong (c .before .before .before .before .before .before .before .before .before .before .args .d .now) (λ i. omega (arith, bs i))), search needs)
 
 pub print-fault-spec : {M : Type 1} → statement M
 print-fault-spec =

@@ -12,13 +12,13 @@ use Rattle.message.proofs.prints.Statement.{statement}
 use Rattle.message.proofs.prints.Tie as tie
 
 abbrev Inv-loop : tie.InvT-loop
-Inv-loop d from before at₀ count₀ run₀ at count run = Scanning (printFaults d) d at count × Ran d run at
+Inv-loop t d from before at₀ count₀ run₀ at count run = Scanning (printFaults d) d at count × Ran d run at
 
 abbrev μ-loop : tie.MeasureT-loop
-μ-loop d from before at₀ count₀ run₀ at count run = length d - at
+μ-loop t d from before at₀ count₀ run₀ at count run = length d - at
 
 loop-holds : tie.Need-loop-holds Inv-loop μ-loop
-loop-holds c = (c .before .pre, search (unbegun))
+loop-holds c = (search needs, search (unbegun))
 
 returns : tie.Need-returns Inv-loop μ-loop
 returns c = search (passed)
@@ -30,7 +30,7 @@ returns-3 : tie.Need-returns-3 Inv-loop μ-loop
 returns-3 c = absurd (⊎-elim (λ w. omega (arith, c .before .match2 .keys3)) (λ w. omega (arith, c .before .match2 .keys3)) (c .before .before .match .keys2))
 
 print-fault-requires : tie.Need-print-fault-requires Inv-loop μ-loop
-print-fault-requires c κs = (search needs, search needs, search (print-room))
+print-fault-requires c κs = (search needs, search needs, search needs, search (print-room))
 
 returns-4 : tie.Need-returns-4 Inv-loop μ-loop
 returns-4 c = search (print-decides)

@@ -1,18 +1,20 @@
 -- A table's rule, proved at all of its entries by one test that antt computes; and a byte by its two halves.
-use mathlib.Core.Path.{_≡_, sym, ap, ap₂, subst, _∙_}
+use mathlib.Core.Path.{_≡_, refl, sym, ap, ap₂, subst, _∙_}
 use mathlib.Core.Bool.{Bool, true, false}
 use mathlib.Core.List.{List, [], _∷_}
-use Prim.Native.Nat.{ℕ, zero, suc, _+_, _*_, _/_, _%_, _≤_, _<_}
+use Prim.Native.Nat.{ℕ, zero, suc, _+_, _*_, _/_, _%_, _^_, _≤_, _<_}
 use native.Mathlib.Nat.{add-zero, zero-add, add-suc, suc-add, le-of-suc-le-suc, not-suc-le-zero}
 use native.Mathlib.Omega.{arith}
+use borrow.Author.Tests.{le-ltb}
 use lib.Dec.{T, eqb, eqb→eq}
 use lib.ListN.{length, getD}
-use lib.Bits.{bitXor}
+use lib.Bits.{bitXor, xor-zero-r}
 use Rattle.base.specs.Choice.{pick}
+use Rattle.base.specs.Xor.{xor-assoc}
 use Rattle.crc32.specs.Crc.{bitSteps}
 use Rattle.crc32.specs.Octets.{octets}
-use Rattle.crc32.specs.CrcLaws.{bitSteps-xor, bitSteps-add, bitSteps-split}
-use Rattle.crc32.specs.Rows.{Rows}
+use Rattle.crc32.specs.CrcLaws.{bitSteps-xor, bitSteps-add, bitSteps-split, octets-suc, octets-xor}
+use Rattle.crc32.specs.Rows.{Rows, halves, fourBy}
 
 both-left : (a b : Bool) → T (pick a b false) → T a
 both-left true b t = tt
@@ -49,8 +51,8 @@ rows t h =
 
 -- a byte's low half has one half more behind it than its high half
 pub look-is : (t : List ℕ) (k x : ℕ) → Rows t → k * 32 + 32 ≤ length t
-    → bitXor (getD t (k * 32 + 16 + x % 16) 0) (getD t (k * 32 + x / 16 % 16) 0) ≡ octets (suc k) (x % 256)
-unfolding octets
+    → halves t k x ≡ octets (suc k) (x % 256)
+unfolding octets halves
 look-is t k x h l =
     ap₂ bitXor (h .entry (k * 32 + 16 + x % 16) (omega arith) ∙ ap₂ bitSteps p₁ p₂)
     (h .entry (k * 32 + x / 16 % 16) (omega arith) ∙ ap₂ bitSteps q₁ q₂)
@@ -83,3 +85,27 @@ look-is t k x h l =
 
     g : x % 256 / 16 ≡ x / 16 % 16
     g = omega arith
+
+-- the low byte goes through one byte's steps more than those above it
+pub peel : (j y : ℕ) → octets (suc j) y ≡ bitXor (octets (suc j) (y % 256)) (octets j (y / 256))
+peel j y =
+    octets-suc j y ∙ ap (octets j) (bitSteps-split 8 y) ∙ octets-xor j (bitSteps 8 (y % 256)) (y / 256)
+    ∙ ap (λ (z : ℕ). bitXor z (octets j (y / 256))) (sym (octets-suc j (y % 256)))
+
+-- a register of 32 digits by eight rows
+pub four-by : (t : List ℕ) (x : ℕ) → Rows t → 128 ≤ length t → x < 2 ^ 32 → fourBy t x ≡ octets 4 x
+unfolding fourBy octets bitSteps
+four-by t x h l k =
+    simp (le-ltb (length t) 128 l)
+    (ap₂ bitXor (ap₂ bitXor (look-is t 3 x h (omega arith)) (look-is t 2 (x / 256) h (omega arith)))
+    (ap₂ bitXor (look-is t 1 (x / 65536) h (omega arith)) (look-is t 0 (x / 16777216) h (omega arith)))
+    ∙ xor-assoc (octets 4 (x % 256)) (octets 3 (x / 256 % 256)) (bitXor (octets 2 (x / 65536 % 256)) (octets 1 (x / 16777216 % 256)))
+    ∙ sym (down 3 x (x / 256) refl
+    ∙ ap (bitXor (octets 4 (x % 256)))
+    (down 2 (x / 256) (x / 65536) (omega arith)
+    ∙ ap (bitXor (octets 3 (x / 256 % 256)))
+    (down 1 (x / 65536) (x / 16777216) (omega arith)
+    ∙ ap (bitXor (octets 2 (x / 65536 % 256))) (down 0 (x / 16777216) 0 (omega arith) ∙ xor-zero-r (octets 1 (x / 16777216 % 256)))))))
+  where
+    down : (j y z : ℕ) → y / 256 ≡ z → octets (suc j) y ≡ bitXor (octets (suc j) (y % 256)) (octets j z)
+    down j y z e = peel j y ∙ ap (λ (w : ℕ). bitXor (octets (suc j) (y % 256)) (octets j w)) e

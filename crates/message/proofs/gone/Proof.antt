@@ -1,0 +1,36 @@
+use Rattle.message.proofs.Runs.{begun-ran, begun-far, begun-short, arrived, there}
+use borrow.Author.Needs.{needs}
+use Rattle.message.proofs.gone.Statement.{statement}
+use Rattle.message.proofs.gone.Tie as tie
+
+carried-requires : tie.Need-carried-requires
+carried-requires c κs = (search (begun-ran), search (begun-far), search needs)
+
+returns : tie.Need-returns
+returns c = (search (arrived, begun-short), search (there))
+
+returns-2 : tie.Need-returns-2
+returns-2 c = (search (arrived), search (there))
+
+returns-3 : tie.Need-returns-3
+returns-3 c = (search (arrived), search (there))
+
+returns-5 : tie.Need-returns-5
+returns-5 c = (search (arrived), search (there))
+
+pub gone-spec : {M : Type 1} → statement M
+gone-spec =
+    tie.close
+    (tie.spec
+    (λ c κs. search needs)
+    carried-requires
+    returns
+    (λ c. search needs)
+    (λ c κs. search needs)
+    returns-2
+    (λ c κs. search needs)
+    returns-3
+    (λ c κs. search needs)
+    (λ c. search needs)
+    (λ c κs. search needs)
+    returns-5)
