@@ -2,10 +2,10 @@
 use crate::measure;
 use std::hint::black_box;
 
-#[link(name = "bench", kind = "static")]
+#[link(name = "cratehoist", kind = "static")]
 extern "C" {
-    fn bench_crc32(s: *const u8, n: usize) -> u32;
-    fn bench_crc32_update(c: u32, s: *const u8, n: usize) -> u32;
+    fn cratehoist_crc32(s: *const u8, n: usize) -> u32;
+    fn cratehoist_crc32_update(c: u32, s: *const u8, n: usize) -> u32;
 }
 
 #[link(name = "z")]
@@ -15,7 +15,7 @@ extern "C" {
 }
 
 fn ours(s: &[u8]) -> u32 {
-    unsafe { bench_crc32(s.as_ptr(), s.len()) }
+    unsafe { cratehoist_crc32(s.as_ptr(), s.len()) }
 }
 
 fn theirs(s: &[u8]) -> u32 {
@@ -28,7 +28,7 @@ fn parts<'a>(s: &'a [u8], other: &'a [u8]) -> [&'a [u8]; 3] {
 }
 
 fn ours_in_parts(s: &[u8], other: &[u8]) -> u32 {
-    !parts(s, other).iter().fold(!0, |c, p| unsafe { bench_crc32_update(c, p.as_ptr(), p.len()) })
+    !parts(s, other).iter().fold(!0, |c, p| unsafe { cratehoist_crc32_update(c, p.as_ptr(), p.len()) })
 }
 
 fn theirs_in_parts(s: &[u8], other: &[u8]) -> u32 {

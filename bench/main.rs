@@ -1,5 +1,6 @@
 //! Our calls beside their peers. `run NAME ..` times some of the parts only.
 mod crc32;
+mod lines;
 mod measure;
 mod plain;
 mod reader;
@@ -9,12 +10,16 @@ mod worst;
 
 fn main() {
     let wanted: Vec<String> = std::env::args().skip(1).collect();
-    let parts: [(&str, fn()); 5] = [
+    if wanted.first().is_some_and(|w| w == "--peer-lines") {
+        return lines::peer().expect("a pipe");
+    }
+    let parts: [(&str, fn()); 6] = [
         ("crc32", crc32::run),
         ("sha", sha::run),
         ("utf8", utf8::run),
         ("reader", reader::run),
         ("worst", worst::run),
+        ("lines", lines::run),
     ];
     measure::head();
     for (name, part) in parts {

@@ -43,3 +43,9 @@ pub fn row(what: &str, bytes: usize, peer: &str, mut ours: impl FnMut(), mut the
     let (a, b) = (median(a), median(b));
     println!("{what:<28} {bytes:>7}  {a:>8.1} ns {b:>8.1} ns  {:<18} {:>7.2}", format!("({peer})"), b / a);
 }
+
+/// The same of whole runs, in milliseconds.
+pub fn long_row(what: &str, bytes: u64, peer: &str, ours: Vec<f64>, theirs: Vec<f64>) {
+    let (a, b) = (median(ours) * 1e3, median(theirs) * 1e3);
+    println!("{what:<28} {bytes:>7}  {a:>8.1} ms {b:>8.1} ms  {:<18} {:>7.2}", format!("({peer})"), b / a);
+}

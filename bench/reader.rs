@@ -5,10 +5,23 @@ use std::ffi::{c_int, c_void};
 use std::hint::black_box;
 use std::ptr::null_mut;
 
-#[link(name = "bench", kind = "static")]
+#[link(name = "cratehoist", kind = "static")]
 extern "C" {
-    fn bench_read(d: *const u8, n: usize) -> Said;
-    fn bench_crc32(s: *const u8, n: usize) -> u32;
+    fn cratehoist_read(d: *const u8, n: usize) -> Reading;
+    fn cratehoist_crc32(s: *const u8, n: usize) -> u32;
+}
+
+/// What our reader answers (include/cratehoist.h).
+#[repr(C)]
+#[allow(dead_code)] // `what` and `id` are there for the layout
+pub struct Reading {
+    what: u8,
+    pub number: u8,
+    class: u16,
+    method: u16,
+    count: usize,
+    place: usize,
+    id: [u8; 12],
 }
 
 /// libnice's own structs (stun/stunagent.h, stun/stunmessage.h).
@@ -57,8 +70,13 @@ extern "C" {
     fn stun_agent_validate(agent: *mut Agent, m: *mut Message, b: *const u8, n: usize, validater: *const c_void, data: *mut c_void) -> c_int;
 }
 
-pub fn ours(d: &[u8]) -> Said {
-    unsafe { bench_read(d.as_ptr(), d.len()) }
+pub fn ours(d: &[u8]) -> Reading {
+    unsafe { cratehoist_read(d.as_ptr(), d.len()) }
+}
+
+fn said(d: &[u8]) -> Said {
+    let r = ours(d);
+    Said { number: r.number, class: r.class, method: r.method, count: r.count, place: r.place }
 }
 
 /// An agent that waits for the answer to the request of one ID.
@@ -87,9 +105,14 @@ pub fn attribute(d: &mut Vec<u8>, kind: u16, value: &[u8]) {
 }
 
 pub fn fingerprint(d: &mut Vec<u8>) {
-    let p = d.len();
     attribute(d, 0x8028, &[0; 4]);
-    let sum = unsafe { bench_crc32(d.as_ptr(), p) } ^ 0x5354_554E;
+    seal(d);
+}
+
+/// Sums a message anew whose last attribute is FINGERPRINT.
+pub fn seal(d: &mut [u8]) {
+    let p = d.len() - 8;
+    let sum = unsafe { cratehoist_crc32(d.as_ptr(), p) } ^ 0x5354_554E;
     d[p + 4..].copy_from_slice(&sum.to_be_bytes());
 }
 
@@ -109,7 +132,7 @@ pub fn usual(d: &mut Vec<u8>) {
 }
 
 /// A Binding response of 100 bytes with these and FINGERPRINT.
-fn response() -> Vec<u8> {
+pub fn response() -> Vec<u8> {
     let mut d = header(0x0101);
     usual(&mut d);
     fingerprint(&mut d);
@@ -117,7 +140,7 @@ fn response() -> Vec<u8> {
 }
 
 /// A response with REALM, NONCE and ERROR-CODE, in words of several scripts.
-fn error() -> Vec<u8> {
+pub fn error() -> Vec<u8> {
     let mut d = header(0x0111);
     attribute(&mut d, 0x0009, "\0\0\u{4}\u{1}Keine Befugnis für dich".as_bytes());
     attribute(&mut d, 0x0015, b"f//499k954d6OL34oL9FSTvy64sA");
@@ -128,7 +151,7 @@ fn error() -> Vec<u8> {
 }
 
 /// A Binding request with USERNAME and types that are not known.
-fn request() -> Vec<u8> {
+pub fn request() -> Vec<u8> {
     let mut d = header(0x0001);
     attribute(&mut d, 0x0006, b"evtj:h6vY");
     attribute(&mut d, 0x0024, &[0x6E, 0, 1, 0xFF]);
@@ -141,19 +164,19 @@ fn request() -> Vec<u8> {
 /// Every cut and every change of a byte of three messages, with the length field made right again and as it was.
 fn compare() {
     for mut d in [response(), error(), request()] {
-        assert_eq!(ours(&d).number, 0);
-        assert_eq!(ours(&d), plain::read(&d));
+        assert_eq!(said(&d).number, 0);
+        assert_eq!(said(&d), plain::read(&d));
         for n in 0..d.len() {
-            assert_eq!(ours(&d[..n]), plain::read(&d[..n]));
+            assert_eq!(said(&d[..n]), plain::read(&d[..n]));
             if n >= 20 {
                 let mut e = d[..n].to_vec();
                 e[2..4].copy_from_slice(&((n - 20) as u16).to_be_bytes());
-                assert_eq!(ours(&e), plain::read(&e));
+                assert_eq!(said(&e), plain::read(&e));
             }
             let was = d[n];
             for b in 0..=255 {
                 d[n] = b;
-                assert_eq!(ours(&d), plain::read(&d), "byte {n} is {b}");
+                assert_eq!(said(&d), plain::read(&d), "byte {n} is {b}");
             }
             d[n] = was;
         }

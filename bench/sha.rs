@@ -6,11 +6,11 @@ use std::hint::black_box;
 #[repr(C)]
 pub struct Digest([u8; 20]);
 
-#[link(name = "bench", kind = "static")]
+#[link(name = "cratehoist", kind = "static")]
 extern "C" {
-    fn bench_sha1(s: *const u8, n: usize) -> Digest;
-    fn bench_hmac(k: *const u8, size: usize, m: *const u8, n: usize) -> Digest;
-    fn bench_hmac_front(k: *const u8, size: usize, d: *const u8, n: usize, p: usize, length: u16) -> Digest;
+    fn cratehoist_sha1(s: *const u8, n: usize) -> Digest;
+    fn cratehoist_hmac(k: *const u8, size: usize, m: *const u8, n: usize) -> Digest;
+    fn cratehoist_hmac_front(k: *const u8, size: usize, d: *const u8, n: usize, p: usize, length: u16) -> Digest;
 }
 
 #[link(name = "crypto")]
@@ -21,15 +21,15 @@ extern "C" {
 }
 
 fn hash(s: &[u8]) -> [u8; 20] {
-    unsafe { bench_sha1(s.as_ptr(), s.len()) }.0
+    unsafe { cratehoist_sha1(s.as_ptr(), s.len()) }.0
 }
 
 fn hmac(k: &[u8], m: &[u8]) -> [u8; 20] {
-    unsafe { bench_hmac(k.as_ptr(), k.len(), m.as_ptr(), m.len()) }.0
+    unsafe { cratehoist_hmac(k.as_ptr(), k.len(), m.as_ptr(), m.len()) }.0
 }
 
 fn hmac_front(k: &[u8], d: &[u8], p: usize, length: u16) -> [u8; 20] {
-    unsafe { bench_hmac_front(k.as_ptr(), k.len(), d.as_ptr(), d.len(), p, length) }.0
+    unsafe { cratehoist_hmac_front(k.as_ptr(), k.len(), d.as_ptr(), d.len(), p, length) }.0
 }
 
 fn their_hash(s: &[u8]) -> [u8; 20] {

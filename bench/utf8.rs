@@ -2,18 +2,18 @@
 use crate::measure;
 use std::hint::black_box;
 
-#[link(name = "bench", kind = "static")]
+#[link(name = "cratehoist", kind = "static")]
 extern "C" {
-    fn bench_is_utf8(bytes: *const u8, size: usize) -> bool;
-    fn bench_code_points(bytes: *const u8, size: usize) -> usize;
+    fn cratehoist_is_utf8(bytes: *const u8, size: usize) -> bool;
+    fn cratehoist_code_points(bytes: *const u8, size: usize) -> usize;
 }
 
 fn is_utf8(s: &[u8]) -> bool {
-    unsafe { bench_is_utf8(s.as_ptr(), s.len()) }
+    unsafe { cratehoist_is_utf8(s.as_ptr(), s.len()) }
 }
 
 fn code_points(s: &[u8]) -> usize {
-    unsafe { bench_code_points(s.as_ptr(), s.len()) }
+    unsafe { cratehoist_code_points(s.as_ptr(), s.len()) }
 }
 
 /// Text of about `size` bytes, cut at a character.

@@ -37,6 +37,39 @@ fn head(buf: &mut [u8], o: Out, class: MessageClass, method: Method, id: Transac
     put(buf, o, b" ")
 }
 
+fn whole(
+    buf: &mut [u8],
+    o: Out,
+    class: MessageClass,
+    method: Method,
+    id: TransactionId,
+    count: usize,
+) -> Out {
+    let o = put(buf, o, b"whole ");
+    let o = head(buf, o, class, method, id);
+    decimal(buf, o, count as u64)
+}
+
+fn broken(
+    buf: &mut [u8],
+    o: Out,
+    class: MessageClass,
+    method: Method,
+    id: TransactionId,
+    reason: u8,
+    place: usize,
+) -> Out {
+    let o = put(buf, o, b"broken ");
+    let o = head(buf, o, class, method, id);
+    let o = spaced(buf, o, reason as u64);
+    decimal(buf, o, place as u64)
+}
+
+fn refused(buf: &mut [u8], o: Out, number: u8) -> Out {
+    let o = put(buf, o, b"refused ");
+    decimal(buf, o, number as u64)
+}
+
 fn reading(d: &[u8], buf: &mut [u8], o: Out) -> Out {
     let r = message::read(d);
     let id = r.id;
@@ -46,38 +79,25 @@ fn reading(d: &[u8], buf: &mut [u8], o: Out) -> Out {
             class,
             method,
             count,
-        } => {
-            let o = put(buf, o, b"whole ");
-            let o = head(buf, o, class, method, id);
-            decimal(buf, o, count as u64)
-        }
+        } => whole(buf, o, class, method, id, count),
         Answer::Broken {
             class,
             method,
             reason,
             place,
-        } => {
-            let o = put(buf, o, b"broken ");
-            let o = head(buf, o, class, method, id);
-            let o = decimal(buf, o, reason as u64);
-            let o = put(buf, o, b" ");
-            decimal(buf, o, place as u64)
-        }
-        Answer::Refused { number } => {
-            let o = put(buf, o, b"refused ");
-            decimal(buf, o, number as u64)
-        }
+        } => broken(buf, o, class, method, id, reason, place),
+        Answer::Refused { number } => refused(buf, o, number),
     }
 }
 
-fn plus(a: usize, b: usize) -> usize {
+pub fn plus(a: usize, b: usize) -> usize {
     if usize::MAX - a < b {
         return usize::MAX;
     }
     a + b
 }
 
-fn minus(a: usize, b: usize) -> usize {
+pub fn minus(a: usize, b: usize) -> usize {
     if a < b {
         return 0;
     }
@@ -115,16 +135,15 @@ fn visited(
     spaced(buf, o, minus(next, end) as u64)
 }
 
+fn stop(buf: &mut [u8], o: Out, why: &[u8], at: usize) -> Out {
+    let o = put(buf, o, why);
+    decimal(buf, o, at as u64)
+}
+
 fn stopped(w: Walk, buf: &mut [u8], o: Out) -> Out {
     match w {
-        Walk::End { at } => {
-            let o = put(buf, o, b"end:");
-            decimal(buf, o, at as u64)
-        }
-        Walk::Cut { at } => {
-            let o = put(buf, o, b"cut:");
-            decimal(buf, o, at as u64)
-        }
+        Walk::End { at } => stop(buf, o, b"end:", at),
+        Walk::Cut { at } => stop(buf, o, b"cut:", at),
         Walk::Attribute {
             at: _,
             kind: _,
@@ -186,6 +205,17 @@ fn address(buf: &mut [u8], o: Out, family: Family, port: u16, ip: [u8; 16]) -> O
     ip_hex(buf, o, family, &ip)
 }
 
+fn error(buf: &mut [u8], o: Out, code: u16, phrase: &[u8]) -> Out {
+    let o = put(buf, o, b"error=");
+    let o = equals(buf, o, code as u64);
+    hex(buf, o, phrase)
+}
+
+fn bytes(buf: &mut [u8], o: Out, s: &[u8]) -> Out {
+    let o = put(buf, o, b"bytes=");
+    hex(buf, o, s)
+}
+
 // What a value says, by its type.
 fn said(buf: &mut [u8], o: Out, kind: u16, value: &[u8], id: TransactionId) -> Out {
     let t = typed::value_of(kind, value, id);
@@ -193,15 +223,8 @@ fn said(buf: &mut [u8], o: Out, kind: u16, value: &[u8], id: TransactionId) -> O
     let v = t.value;
     match v {
         Value::Address { family, port } => address(buf, o, family, port, ip),
-        Value::Code { code } => {
-            let o = put(buf, o, b"error=");
-            let o = equals(buf, o, code as u64);
-            hex(buf, o, typed::part_of(kind, value))
-        }
-        Value::Plain => {
-            let o = put(buf, o, b"bytes=");
-            hex(buf, o, typed::part_of(kind, value))
-        }
+        Value::Code { code } => error(buf, o, code, typed::part_of(kind, value)),
+        Value::Plain => bytes(buf, o, typed::part_of(kind, value)),
         Value::Refused { number } => decimal(buf, o, number as u64),
     }
 }
@@ -278,21 +301,27 @@ fn values(d: &[u8], buf: &mut [u8], o: Out) -> Out {
     o
 }
 
-// The line for a datagram.
-pub fn answer(d: &[u8], job: Job, key: &[u8], buf: &mut [u8], o: Out) -> Out {
+fn checked(d: &[u8], key: &[u8], buf: &mut [u8], o: Out) -> Out {
+    let o = reading(d, buf, o);
+    let o = put(buf, o, b" integrity ");
+    decimal(buf, o, integrity::check_integrity(d, key) as u64)
+}
+
+fn asked(d: &[u8], job: Job, key: &[u8], buf: &mut [u8], o: Out) -> Out {
     if job.walk {
-        let o = walk(d, buf, o);
-        return put(buf, o, b"\n");
+        return walk(d, buf, o);
     }
     if job.values {
-        let o = values(d, buf, o);
-        return put(buf, o, b"\n");
+        return values(d, buf, o);
     }
-    let o = reading(d, buf, o);
     if job.keyed {
-        let o = put(buf, o, b" integrity ");
-        let o = decimal(buf, o, integrity::check_integrity(d, key) as u64);
-        return put(buf, o, b"\n");
+        return checked(d, key, buf, o);
     }
+    reading(d, buf, o)
+}
+
+// The line for a datagram.
+pub fn answer(d: &[u8], job: Job, key: &[u8], buf: &mut [u8], o: Out) -> Out {
+    let o = asked(d, job, key, buf, o);
     put(buf, o, b"\n")
 }

@@ -42,7 +42,7 @@ fn is_digit(b: u8) -> bool {
     text::first_bad(&one) == 1
 }
 
-fn is_blank(b: u8) -> bool {
+pub fn is_blank(b: u8) -> bool {
     match b {
         9 => true,
         13 => true,
@@ -322,7 +322,7 @@ fn taken(
 
 // The datagram of the file that a path names, `-` for standard input.
 pub fn datagram(path: &[u8], form: Form, raw: &mut [u8]) -> Found {
-    let mut file = [0u8; 262144];
+    let mut file = [0u8; 65600];
     let mut kept = [0u8; 131112];
     if check::same(path, b"-") {
         return taken(0, b"standard input", form, &mut file, &mut kept, raw);

@@ -1,6 +1,9 @@
 // stun lines: a line of hex a datagram, a line of answer each.
 use crate::answers::Job;
 use crate::answers::answer;
+use crate::feed::find;
+use crate::feed::is_comment;
+use crate::feed::move_down;
 use crate::output;
 use crate::output::Out;
 use crate::output::complain;
@@ -68,11 +71,12 @@ fn without_return(s: &[u8]) -> usize {
     s.len()
 }
 
-fn is_comment(s: &[u8]) -> bool {
-    if s.len() == 0 {
-        return false;
+// The bytes that a line spells, as many as raw has.
+fn spelt(raw: &[u8], size: usize, job: Job, key: &[u8], buf: &mut [u8], o: Out) -> Out {
+    if size <= raw.len() {
+        return answer(&raw[0..size], job, key, buf, o);
     }
-    s[0] == 35
+    answer(raw, job, key, buf, o)
 }
 
 // One line, without its end.
@@ -83,12 +87,7 @@ fn one(s: &[u8], line: u64, job: Job, key: &[u8], raw: &mut [u8], buf: &mut [u8]
     }
     let h = text::unhex(&s[0..n], raw);
     match h {
-        Hex::Bytes(size) => {
-            if size <= raw.len() {
-                return answer(&raw[0..size], job, key, buf, o);
-            }
-            answer(raw, job, key, buf, o)
-        }
+        Hex::Bytes(size) => spelt(raw, size, job, key, buf, o),
         Hex::Bad(p) => not_hex(line, plus(p as u64, 1), buf, o),
         Hex::Odd => odd(line, buf, o),
     }
@@ -99,18 +98,6 @@ struct Scanned {
     line: u64,
     done: u64,
     out: Out,
-}
-
-// The place of the next line end at or behind a place; the size where there is none.
-fn line_end(s: &[u8], from: usize) -> usize {
-    let mut i = from;
-    while i < s.len() {
-        if s[i] == 10 {
-            return i;
-        }
-        i += 1;
-    }
-    s.len()
 }
 
 // One line of several, which ends before e; the numbers go on.
@@ -148,7 +135,7 @@ fn lines(s: &[u8], c: Scanned, job: Job, key: &[u8], raw: &mut [u8], buf: &mut [
     let mut left = s.len();
     while left > 0 {
         let from = c.from;
-        let e = line_end(s, from);
+        let e = find(s, from, 10);
         if s.len() <= e {
             return c;
         }
@@ -316,23 +303,6 @@ fn last(s: State, input: &[u8], job: Job, key: &[u8], raw: &mut [u8], buf: &mut 
     }
 }
 
-// Moves what stands from a place up to the end to the front, and answers how much that is.
-fn move_down(s: &mut [u8], from: usize, end: usize) -> usize {
-    if s.len() < end {
-        return 0;
-    }
-    if end < from {
-        return 0;
-    }
-    let n = end - from;
-    let mut i = 0;
-    while i < n {
-        s[i] = s[from + i];
-        i += 1;
-    }
-    n
-}
-
 // What was read, from a place up to the end: whole lines are answered, and the rest moves to the front.
 fn ordinary(
     s: State,
@@ -392,7 +362,7 @@ fn going_on(
     if input.len() < end {
         return stopped(s);
     }
-    let e = line_end(&input[0..end], 0);
+    let e = find(&input[0..end], 0, 10);
     if end <= e {
         return longer(s, &input[0..end]);
     }
@@ -402,31 +372,18 @@ fn going_on(
     ordinary(next, input, from, end, job, key, raw, buf)
 }
 
-// Reads once.
-fn turn(s: State, input: &mut [u8], job: Job, key: &[u8], raw: &mut [u8], buf: &mut [u8]) -> State {
-    let have = s.have;
-    if input.len() <= have {
-        let o = s.out;
-        return State {
-            have: 0,
-            go: s.go,
-            line: s.line,
-            done: s.done,
-            long: begin_long(input, raw),
-            out: o,
-        };
-    }
-    let got = libc::read(STDIN_FILENO, &mut input[have..]);
-    if got < 0 {
-        os::fail(b"stun: standard input");
-        output::status(b"2");
-        return stopped(s);
-    }
-    let n = io::count(got, input);
-    if n == 0 {
-        return last(s, input, job, key, raw, buf);
-    }
-    if input.len() - have < n {
+// So many bytes were read behind those that the buffer had.
+fn more_read(
+    s: State,
+    input: &mut [u8],
+    have: usize,
+    n: usize,
+    job: Job,
+    key: &[u8],
+    raw: &mut [u8],
+    buf: &mut [u8],
+) -> State {
+    if usize::MAX - have < n {
         return stopped(s);
     }
     let long = s.long;
@@ -434,6 +391,42 @@ fn turn(s: State, input: &mut [u8], job: Job, key: &[u8], raw: &mut [u8], buf: &
         return going_on(s, input, n, job, key, raw, buf);
     }
     ordinary(s, input, 0, have + n, job, key, raw, buf)
+}
+
+// The buffer is full and its line goes on.
+fn full(s: State, input: &[u8], raw: &mut [u8]) -> State {
+    let o = s.out;
+    State {
+        have: 0,
+        go: s.go,
+        line: s.line,
+        done: s.done,
+        long: begin_long(input, raw),
+        out: o,
+    }
+}
+
+fn unread(s: State) -> State {
+    os::fail(b"stun: standard input");
+    output::status(b"2");
+    stopped(s)
+}
+
+// Reads once.
+fn turn(s: State, input: &mut [u8], job: Job, key: &[u8], raw: &mut [u8], buf: &mut [u8]) -> State {
+    let have = s.have;
+    if input.len() <= have {
+        return full(s, input, raw);
+    }
+    let got = libc::read(STDIN_FILENO, &mut input[have..]);
+    if got < 0 {
+        return unread(s);
+    }
+    let n = io::count(got, input);
+    if n == 0 {
+        return last(s, input, job, key, raw, buf);
+    }
+    more_read(s, input, have, n, job, key, raw, buf)
 }
 
 // All of standard input.
@@ -459,7 +452,7 @@ fn all(job: Job, key: &[u8], input: &mut [u8], raw: &mut [u8], buf: &mut [u8]) {
 }
 
 pub fn run(job: Job, key: &[u8]) {
-    let mut input = [0u8; 262144];
+    let mut input = [0u8; 131328];
     let mut raw = [0u8; MOST];
     let mut buf = [0u8; 65536];
     all(job, key, &mut input, &mut raw, &mut buf);

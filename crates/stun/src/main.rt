@@ -1,9 +1,19 @@
-// stun: the front door. Lists and checks STUN messages; every rule is the library's.
+// stun: the front door. Shows, lists, writes and checks STUN messages; every rule is the library's.
 mod answers;
+mod calls;
+mod dump;
+mod feed;
+mod fields;
 mod input;
+mod kinds;
 mod lines;
 mod output;
+mod person;
 mod progress;
+mod read;
+mod say;
+mod wants;
+mod write;
 
 use answers::Job;
 use answers::part;
@@ -16,10 +26,17 @@ use text::Hex;
 fn help(fd: i32) {
     io::write_all(
         fd,
-        b"stun lines [--walk | --values | --key HEX] < FILE\n\
+        b"stun read FILE|- [--hex | --raw]\n\
+        \x20   a datagram shown for a person, from raw bytes or hex text; ends with 1 where it is broken or refused\n\
+        stun lines [--walk | --values | --key HEX] < FILE\n\
         \x20   a line of hex a datagram in (# starts a remark), a line each out:\n\
         \x20   whole CLASS METHOD ID COUNT, broken CLASS METHOD ID NUMBER PLACE, refused NUMBER;\n\
         \x20   ? where the line is no hex, and standard error says where\n\
+        stun write < SCRIPT\n\
+        \x20   a call a line into a buffer of 65,552 bytes, a line each out: ok SIZE, no NUMBER, or ? and what was expected;\n\
+        \x20   begin CLASS METHOD ID, raw TYPE VALUE PADDING, address TYPE FAMILY PORT IP, text TYPE HEX, error CODE HEX,\n\
+        \x20   types T,T,.., integrity KEY, fingerprint; show prints the message, dump the buffer,\n\
+        \x20   buffer N makes it N bytes of AA, load HEX just these; bytes in hex, - for none; # starts a remark\n\
         stun check KEY FILE|-\n\
         \x20   is the datagram's MESSAGE-INTEGRITY made with the key, given in hex?\n\
         stun numbers [N]\n\
@@ -35,7 +52,7 @@ fn unknown(word: &[u8]) {
     status(b"2");
 }
 
-fn is_word(i: usize, word: &[u8]) -> bool {
+pub fn is_word(i: usize, word: &[u8]) -> bool {
     let mut arg = [0u8; 16];
     let n = os::arg(i, &mut arg);
     same(&arg[..n], word)
@@ -63,9 +80,23 @@ fn lines_of(walk: bool, values: bool) {
     );
 }
 
+fn bad_key(p: usize) -> usize {
+    complain(b"stun: the key, column ");
+    io::print_decimal(2, lines::plus(p as u64, 1));
+    complain(b": not a hex digit\n");
+    status(b"2");
+    usize::MAX
+}
+
+fn odd_key() -> usize {
+    complain(b"stun: the key has an odd number of hex digits\n");
+    status(b"2");
+    usize::MAX
+}
+
 // A key in hex: its size, or more than the buffer has where it is none, which has been told.
 fn key_at(i: usize, key: &mut [u8]) -> usize {
-    let mut arg = [0u8; 131072];
+    let mut arg = io::large_buffer();
     let n = os::arg(i, &mut arg);
     if os::errno() != 0 {
         os::fail(b"stun: the key");
@@ -75,18 +106,8 @@ fn key_at(i: usize, key: &mut [u8]) -> usize {
     let h = text::unhex(&arg[..n], key);
     match h {
         Hex::Bytes(size) => size,
-        Hex::Bad(p) => {
-            complain(b"stun: the key, column ");
-            io::print_decimal(2, lines::plus(p as u64, 1));
-            complain(b": not a hex digit\n");
-            status(b"2");
-            usize::MAX
-        }
-        Hex::Odd => {
-            complain(b"stun: the key has an odd number of hex digits\n");
-            status(b"2");
-            usize::MAX
-        }
+        Hex::Bad(p) => bad_key(p),
+        Hex::Odd => odd_key(),
     }
 }
 
@@ -95,7 +116,7 @@ fn keyed_lines() {
         refuse(4);
         return;
     }
-    let mut key = [0u8; 65536];
+    let mut key = io::large_buffer();
     let n = key_at(3, &mut key);
     if key.len() < n {
         return;
@@ -114,6 +135,10 @@ fn check_datagram(d: &[u8], key: &[u8]) {
     let n = integrity::check_integrity(d, key);
     io::write_all(1, b"integrity ");
     io::print_decimal(1, n as u64);
+    io::write_all(1, b", ");
+    let name = names::number(n);
+    let letters = name.text;
+    io::write_all(1, part(&letters, 0, name.size));
     io::write_all(1, b"\n");
     if n != 0 {
         status(b"1");
@@ -140,7 +165,7 @@ fn check_command() {
         status(b"2");
         return;
     }
-    let mut key = [0u8; 65536];
+    let mut key = io::large_buffer();
     let n = key_at(2, &mut key);
     if key.len() < n {
         return;
@@ -176,6 +201,14 @@ fn lines_command() {
     refuse(2);
 }
 
+fn write_command() {
+    if os::arg_count() > 2 {
+        refuse(2);
+        return;
+    }
+    write::run();
+}
+
 fn main() {
     if os::arg_count() < 2 {
         help(1);
@@ -183,6 +216,14 @@ fn main() {
     }
     if is_word(1, b"lines") {
         lines_command();
+        return;
+    }
+    if is_word(1, b"read") {
+        read::command();
+        return;
+    }
+    if is_word(1, b"write") {
+        write_command();
         return;
     }
     if is_word(1, b"check") {

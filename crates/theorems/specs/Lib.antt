@@ -9,3 +9,4 @@ pub mod Stretch
 pub mod Sealing
 pub mod Five
 pub mod Sixteen
+pub mod Long

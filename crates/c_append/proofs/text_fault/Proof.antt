@@ -1,0 +1,36 @@
+use Rattle.c_append.proofs.Sayings.{text, address, code, types, plain}
+use borrow.Author.Needs.{needs}
+use Rattle.c_append.proofs.text_fault.Statement.{statement}
+use Rattle.c_append.proofs.text_fault.Tie as tie
+
+returns : tie.Need-returns
+returns c = search (text)
+
+returns-2 : tie.Need-returns-2
+returns-2 c = search (address)
+
+returns-3 : tie.Need-returns-3
+returns-3 c = search (code)
+
+returns-4 : tie.Need-returns-4
+returns-4 c = search (types)
+
+returns-5 : tie.Need-returns-5
+returns-5 c = search (plain)
+
+pub text-fault-spec : {M : Type 1} → statement M
+text-fault-spec =
+    tie.close
+    (tie.spec
+    (λ c κs. search needs)
+    (λ c. search needs)
+    (λ c κs. search needs)
+    (λ c. search needs)
+    (λ c. search needs)
+    (λ c. search needs)
+    (λ c. search needs)
+    returns
+    returns-2
+    returns-3
+    returns-4
+    returns-5)

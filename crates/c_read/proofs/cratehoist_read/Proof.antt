@@ -1,0 +1,27 @@
+use Rattle.c_read.proofs.Sayings.{whole, broken, refused}
+use borrow.Author.Needs.{needs}
+use Rattle.c_read.proofs.cratehoist_read.Statement.{statement}
+use Rattle.c_read.proofs.cratehoist_read.Tie as tie
+
+returns : tie.Need-returns
+returns c = search (whole)
+
+returns-2 : tie.Need-returns-2
+returns-2 c = search (broken)
+
+returns-3 : tie.Need-returns-3
+returns-3 c = search (refused)
+
+pub cratehoist-read-spec : {M : Type 1} → statement M
+cratehoist-read-spec =
+    tie.close
+    (tie.spec
+    (λ c κs. search needs)
+    (λ c. search needs)
+    (λ c κs. search needs)
+    (λ c. search needs)
+    (λ c κs. search needs)
+    (λ c. search needs)
+    returns
+    returns-2
+    returns-3)

@@ -1,0 +1,39 @@
+-- What the calls return, case by case.
+use Prim.Native.Nat.{ℕ}
+use mathlib.Core.Bool.{true, false}
+use mathlib.Core.Path.{_≡_, sym, ap, _∙_}
+use Rattle.rfc5389.specs.declared.Rule.{Rule}
+use Rattle.rfc5389.specs.declared.Rule.the-variants.{Address, Text, Code, Types, Plain}
+use Rattle.rfc5389.specs.declared.Sizes as list
+use Rattle.rfc5389.specs.declared.Sizes.the-variants.{Between, Unknown}
+use Rattle.c_rules.specs.Said.{sized, ruled}
+
+module _ {s x : list.Sizes} (e : s ≡ x) where
+  pub between : {l g : ℕ} → s ≡ Between l g → record { known = true; least = l; greatest = g } ≡ sized x
+  unfolding sized
+  between f = ap sized (sym f ∙ e)
+
+  pub unknown : s ≡ Unknown → record { known = false; least = 0; greatest = 0 } ≡ sized x
+  unfolding sized
+  unknown f = ap sized (sym f ∙ e)
+
+module _ {q x : Rule} (e : q ≡ x) where
+  pub plain : q ≡ Plain → 0 ≡ ruled x
+  unfolding ruled
+  plain f = ap ruled (sym f ∙ e)
+
+  pub address : q ≡ Address → 1 ≡ ruled x
+  unfolding ruled
+  address f = ap ruled (sym f ∙ e)
+
+  pub text : q ≡ Text → 2 ≡ ruled x
+  unfolding ruled
+  text f = ap ruled (sym f ∙ e)
+
+  pub code : q ≡ Code → 3 ≡ ruled x
+  unfolding ruled
+  code f = ap ruled (sym f ∙ e)
+
+  pub types : q ≡ Types → 4 ≡ ruled x
+  unfolding ruled
+  types f = ap ruled (sym f ∙ e)

@@ -1,0 +1,35 @@
+use Rattle.c_rules.proofs.Sayings.{plain, address, text, code, types}
+use borrow.Author.Needs.{needs}
+use Rattle.c_rules.proofs.cratehoist_rule.Statement.{statement}
+use Rattle.c_rules.proofs.cratehoist_rule.Tie as tie
+
+returns : tie.Need-returns
+returns c = search (plain)
+
+returns-2 : tie.Need-returns-2
+returns-2 c = search (address)
+
+returns-3 : tie.Need-returns-3
+returns-3 c = search (text)
+
+returns-4 : tie.Need-returns-4
+returns-4 c = search (code)
+
+returns-5 : tie.Need-returns-5
+returns-5 c = search (types)
+
+pub cratehoist-rule-spec : {M : Type 1} → statement M
+cratehoist-rule-spec =
+    tie.close
+    (tie.spec
+    (λ c κs. search needs)
+    (λ c. search needs)
+    (λ c. search needs)
+    (λ c. search needs)
+    (λ c. search needs)
+    (λ c. search needs)
+    returns
+    returns-2
+    returns-3
+    returns-4
+    returns-5)

@@ -1,0 +1,9 @@
+use borrow.Author.Needs.{needs}
+use Rattle.c_text.proofs.cratehoist_attribute_name.Statement.{statement}
+use Rattle.c_text.proofs.cratehoist_attribute_name.Tie as tie
+
+returns : tie.Need-returns
+returns c = cc
+
+pub cratehoist-attribute-name-spec : {M : Type 1} → statement M
+cratehoist-attribute-name-spec = tie.close (tie.spec (λ c κs. search needs) (λ c κs. search needs) returns)

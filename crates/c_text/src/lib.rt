@@ -1,0 +1,119 @@
+// What C calls: hex text and numbers in text, and names for a person.
+ghost use mathlib.Core.Path.{_≡_};
+ghost use Rattle.text.specs.Hex.{firstBad, hexOf, read, shown, showing};
+ghost use Rattle.text.specs.Number.{numberOf};
+ghost use Rattle.names.specs.Names.{attributeName, codeName, numberName, methodName};
+ghost use Rattle.c_text.specs.Said.{spelled, meant, told, classTold};
+use wire::method::Method;
+
+// `what` is 0 for that many bytes, 1 for the place of the first bad character, 2 for a digit that is left over.
+#[repr(C)]
+pub struct Hex {
+    pub what: u8,
+    pub at: usize,
+}
+
+#[repr(C)]
+pub struct Number {
+    pub there: bool,
+    pub value: u64,
+}
+
+// The first `size` bytes of the text; empty where there is no name.
+#[repr(C)]
+pub struct Name {
+    pub text: [u8; 32],
+    pub size: usize,
+}
+
+#[no_mangle]
+pub extern "C" fn cratehoist_first_bad(text: &[u8]) -> usize
+    ensures { λ r. ⌜ r ≡ firstBad (now (text .entry)) ⌝ }
+{
+    text::first_bad(text)
+}
+
+#[no_mangle]
+pub extern "C" fn cratehoist_unhex(text: &[u8], buffer: &mut [u8]) -> Hex
+    ensures { λ r. ⌜ (r ≡ spelled (hexOf (now (text .entry)))) × (now (buffer .exit) ≡ read (hexOf (now (text .entry))) (now (buffer .entry)) (now (text .entry))) ⌝ }
+{
+    let h = text::unhex(text, buffer);
+    match h {
+        text::Hex::Bytes(n) => Hex { what: 0, at: n },
+        text::Hex::Bad(p) => Hex { what: 1, at: p },
+        text::Hex::Odd => Hex { what: 2, at: 0 },
+    }
+}
+
+#[no_mangle]
+pub extern "C" fn cratehoist_show(bytes: &[u8], buffer: &mut [u8]) -> usize
+    ensures { λ r. ⌜ (r ≡ shown (now (buffer .entry)) (now (bytes .entry))) × (now (buffer .exit) ≡ showing (now (buffer .entry)) (now (bytes .entry))) ⌝ }
+{
+    text::show(bytes, buffer)
+}
+
+#[no_mangle]
+pub extern "C" fn cratehoist_number_of(text: &[u8]) -> Number
+    ensures { λ r. ⌜ r ≡ meant (numberOf (now (text .entry))) ⌝ }
+{
+    let n = text::number_of(text);
+    match n {
+        text::Number::Is(value) => Number { there: true, value },
+        text::Number::Not => Number {
+            there: false,
+            value: 0,
+        },
+    }
+}
+
+fn name_said(n: names::Name) -> Name
+    ensures { λ r. ⌜ r ≡ told n ⌝ }
+{
+    let text = n.text;
+    Name {
+        text: text,
+        size: n.size,
+    }
+}
+
+#[no_mangle]
+pub extern "C" fn cratehoist_attribute_name(kind: u16) -> Name
+    ensures { λ r. ⌜ r ≡ told (attributeName kind) ⌝ }
+{
+    name_said(names::attribute(kind))
+}
+
+#[no_mangle]
+pub extern "C" fn cratehoist_code_name(code: u16) -> Name
+    ensures { λ r. ⌜ r ≡ told (codeName code) ⌝ }
+{
+    name_said(names::code(code))
+}
+
+#[no_mangle]
+pub extern "C" fn cratehoist_number_name(number: u8) -> Name
+    ensures { λ r. ⌜ r ≡ told (numberName number) ⌝ }
+{
+    name_said(names::number(number))
+}
+
+// A class above 3 has no name.
+#[no_mangle]
+pub extern "C" fn cratehoist_class_name(message_class: u16) -> Name
+    ensures { λ r. ⌜ r ≡ classTold «message_class» ⌝ }
+{
+    if 3 < message_class {
+        return Name {
+            text: [0u8; 32],
+            size: 0,
+        };
+    }
+    name_said(names::class(c_wire::class_numbered(message_class)))
+}
+
+#[no_mangle]
+pub extern "C" fn cratehoist_method_name(method: u16) -> Name
+    ensures { λ r. ⌜ r ≡ told (methodName method) ⌝ }
+{
+    name_said(names::method(Method { code: method }))
+}

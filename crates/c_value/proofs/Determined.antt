@@ -1,0 +1,78 @@
+-- The contracts of the calls determine their answers and the buffer.
+use Prim.Native.Nat.{ℕ}
+use mathlib.Core.List.{List}
+use mathlib.Core.Bool.{Bool}
+use Rattle.base.specs.Determined.{Determines, by}
+use lib.ListN.{length}
+use Rattle.rfc5389.specs.Rows.{rfc5389}
+use Rattle.value.specs.First.{firstIn, first, placed, isThere}
+use Rattle.typed.specs.Typed.{typedOf, partOf, partAt}
+use Rattle.integrity.specs.Integrity.{integrityFault}
+use Rattle.c_value.specs.Said.{found, valueIn, realmIn, typedSaid}
+use Rattle.c_value.specs.declared.First.{First}
+use Rattle.c_wire.specs.declared.Id.{Id}
+use Rattle.c_value.specs.declared.Part.{Part}
+use Rattle.c_value.specs.declared.Typed.{Typed}
+use Rattle.c_value.proofs.cratehoist_search.Kinds as search-kinds
+use Rattle.c_value.proofs.cratehoist_search.Reads as search-reads
+use Rattle.c_value.proofs.cratehoist_find.Kinds as find-kinds
+use Rattle.c_value.proofs.cratehoist_find.Reads as find-reads
+use Rattle.c_value.proofs.cratehoist_has.Kinds as has-kinds
+use Rattle.c_value.proofs.cratehoist_has.Reads as has-reads
+use Rattle.c_value.proofs.cratehoist_first_value.Kinds as first-value-kinds
+use Rattle.c_value.proofs.cratehoist_first_value.Reads as first-value-reads
+use Rattle.c_value.proofs.cratehoist_realm.Kinds as realm-kinds
+use Rattle.c_value.proofs.cratehoist_realm.Reads as realm-reads
+use Rattle.c_value.proofs.cratehoist_typed_value.Kinds as typed-value-kinds
+use Rattle.c_value.proofs.cratehoist_typed_value.Reads as typed-value-reads
+use Rattle.c_value.proofs.cratehoist_check_integrity.Kinds as check-integrity-kinds
+use Rattle.c_value.proofs.cratehoist_check_integrity.Reads as check-integrity-reads
+
+pub determined-search : Determines search-kinds.ps search-kinds.r {I = List ℕ × ℕ} {A = First} search-reads.Asked search-reads.Learnt
+    (λ κs a. (a .0 .now, a .1 .0)) (λ κs z e. z)
+determined-search =
+    by search-kinds.ps search-kinds.r search-reads.Asked search-reads.Learnt _ _
+    (λ x. found (placed (firstIn (x .1) (x .0))))
+    (λ κs a y d i q. q)
+
+pub determined-find : Determines find-kinds.ps find-kinds.r {I = List ℕ × ℕ} {A = First} find-reads.Asked find-reads.Learnt
+    (λ κs a. (a .0 .now, a .1 .0)) (λ κs z e. z)
+determined-find =
+    by find-kinds.ps find-kinds.r find-reads.Asked find-reads.Learnt _ _
+    (λ x. found (placed (first rfc5389 (x .1) (x .0))))
+    (λ κs a y d i q. q)
+
+pub determined-has : Determines has-kinds.ps has-kinds.r {I = List ℕ × ℕ} {A = Bool} has-reads.Asked has-reads.Learnt
+    (λ κs a. (a .0 .now, a .1 .0)) (λ κs z e. z)
+determined-has =
+    by has-kinds.ps has-kinds.r has-reads.Asked has-reads.Learnt _ _
+    (λ x. isThere (first rfc5389 (x .1) (x .0)))
+    (λ κs a y d i q. q)
+
+pub determined-first-value : Determines first-value-kinds.ps first-value-kinds.r {I = List ℕ × ℕ} {A = Part} first-value-reads.Asked first-value-reads.Learnt
+    (λ κs a. (a .0 .now, a .1 .0)) (λ κs z e. z)
+determined-first-value =
+    by first-value-kinds.ps first-value-kinds.r first-value-reads.Asked first-value-reads.Learnt _ _
+    (λ x. valueIn (first rfc5389 (x .1) (x .0)))
+    (λ κs a y d i q. q)
+
+pub determined-realm : Determines realm-kinds.ps realm-kinds.r {I = List ℕ × List ℕ} {A = Part} realm-reads.Asked realm-reads.Learnt
+    (λ κs a. (a .0 .now, a .1 .0 .now)) (λ κs z e. z)
+determined-realm =
+    by realm-kinds.ps realm-kinds.r realm-reads.Asked realm-reads.Learnt _ _
+    (λ x. realmIn (x .0) (x .1))
+    (λ κs a y d i q. q)
+
+pub determined-typed-value : Determines typed-value-kinds.ps typed-value-kinds.r {I = ℕ × List ℕ × Id} {A = Typed} typed-value-reads.Asked typed-value-reads.Learnt
+    (λ κs a. (a .0, a .1 .0 .now, a .1 .1 .0)) (λ κs z e. z)
+determined-typed-value =
+    by typed-value-kinds.ps typed-value-kinds.r typed-value-reads.Asked typed-value-reads.Learnt _ _
+    (λ x. typedSaid (typedOf rfc5389 (x .0) (x .1) (record { bytes = (x .2) .bytes })) (partAt rfc5389 (x .0) (x .1)) (length (partOf rfc5389 (x .0) (x .1))))
+    (λ κs a y d i q. q)
+
+pub determined-check-integrity : Determines check-integrity-kinds.ps check-integrity-kinds.r {I = List ℕ × List ℕ} {A = ℕ} check-integrity-reads.Asked check-integrity-reads.Learnt
+    (λ κs a. (a .0 .now, a .1 .0 .now)) (λ κs z e. z)
+determined-check-integrity =
+    by check-integrity-kinds.ps check-integrity-kinds.r check-integrity-reads.Asked check-integrity-reads.Learnt _ _
+    (λ x. integrityFault rfc5389 (x .0) (x .1))
+    (λ κs a y d i q. q)

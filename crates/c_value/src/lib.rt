@@ -1,0 +1,179 @@
+// What C calls: the first attribute of a type, what a value says, the realm to use, and the check of MESSAGE-INTEGRITY.
+// A part is told by where it starts in the lent bytes, and its size.
+ghost use mathlib.Core.Path.{_≡_};
+ghost use lib.ListN.{length};
+ghost use Rattle.rfc5389.specs.Rows.{rfc5389};
+ghost use Rattle.value.specs.First.{firstIn, first, placed, isThere};
+ghost use Rattle.typed.specs.Typed.{typedOf, partOf, partAt};
+ghost use Rattle.integrity.specs.Integrity.{integrityFault};
+ghost use Rattle.c_value.specs.Said.{found, valueIn, realmIn, typedSaid};
+use c_wire::Id;
+use typed::Value;
+use wire::transaction_id::TransactionId;
+
+// Where the first attribute of a type starts, and the size of its value.
+#[repr(C)]
+pub struct First {
+    pub there: bool,
+    pub place: usize,
+    pub size: usize,
+}
+
+#[repr(C)]
+pub struct Part {
+    pub there: bool,
+    pub start: usize,
+    pub size: usize,
+}
+
+// What a value says, where `number` is 0; the part is one of the value.
+#[repr(C)]
+pub struct Typed {
+    pub number: u8,
+    pub family: u8,
+    pub port: u16,
+    pub code: u16,
+    pub ip: [u8; 16],
+    pub start: usize,
+    pub size: usize,
+}
+
+fn first_said(f: value::First) -> First
+    ensures { λ r. ⌜ r ≡ found f ⌝ }
+{
+    match f {
+        value::First::Found { at, size } => First {
+            there: true,
+            place: at,
+            size,
+        },
+        value::First::Absent => First {
+            there: false,
+            place: 0,
+            size: 0,
+        },
+    }
+}
+
+#[no_mangle]
+pub extern "C" fn cratehoist_search(bytes: &[u8], kind: u16) -> First
+    ensures { λ r. ⌜ r ≡ found (placed (firstIn kind (now (bytes .entry)))) ⌝ }
+{
+    first_said(value::search(bytes, kind))
+}
+
+#[no_mangle]
+pub extern "C" fn cratehoist_find(datagram: &[u8], kind: u16) -> First
+    ensures { λ r. ⌜ r ≡ found (placed (first rfc5389 kind (now (datagram .entry)))) ⌝ }
+{
+    first_said(value::find(datagram, kind))
+}
+
+#[no_mangle]
+pub extern "C" fn cratehoist_has(datagram: &[u8], kind: u16) -> bool
+    ensures { λ r. ⌜ r ≡ isThere (first rfc5389 kind (now (datagram .entry))) ⌝ }
+{
+    value::has(datagram, kind)
+}
+
+#[no_mangle]
+pub extern "C" fn cratehoist_first_value(datagram: &[u8], kind: u16) -> Part
+    ensures { λ r. ⌜ r ≡ valueIn (first rfc5389 kind (now (datagram .entry))) ⌝ }
+{
+    let f = value::find(datagram, kind);
+    match f {
+        value::First::Found { at, size } => {
+            let start = at + 4;
+            Part {
+                there: true,
+                start,
+                size,
+            }
+        }
+        value::First::Absent => Part {
+            there: false,
+            start: 0,
+            size: 0,
+        },
+    }
+}
+
+// A part of the datagram where `there`, else of the configured realm.
+#[no_mangle]
+pub extern "C" fn cratehoist_realm(datagram: &[u8], configured: &[u8]) -> Part
+    ensures { λ r. ⌜ r ≡ realmIn (now (datagram .entry)) (now (configured .entry)) ⌝ }
+{
+    let f = value::find(datagram, realm::REALM);
+    match f {
+        value::First::Found { at, size } => {
+            let start = at + 4;
+            Part {
+                there: true,
+                start,
+                size,
+            }
+        }
+        value::First::Absent => Part {
+            there: false,
+            start: 0,
+            size: configured.len(),
+        },
+    }
+}
+
+#[no_mangle]
+pub extern "C" fn cratehoist_typed_value(kind: u16, value: &[u8], id: Id) -> Typed
+    ensures { λ r. ⌜ r ≡ typedSaid (typedOf rfc5389 kind (now (value .entry)) (record { bytes = id .bytes })) (partAt rfc5389 kind (now (value .entry))) (length (partOf rfc5389 kind (now (value .entry)))) ⌝ }
+{
+    let bytes = id.bytes;
+    let t = typed::value_of(kind, value, TransactionId { bytes: bytes });
+    let part = typed::part_of(kind, value);
+    let size = part.len();
+    let ip = t.ip;
+    let v = t.value;
+    match v {
+        Value::Address { family, port } => Typed {
+            number: 0,
+            family: family.as_u8(),
+            port,
+            code: 0,
+            ip: ip,
+            start: 0,
+            size,
+        },
+        Value::Code { code } => Typed {
+            number: 0,
+            family: 0,
+            port: 0,
+            code,
+            ip: ip,
+            start: 4,
+            size,
+        },
+        Value::Plain => Typed {
+            number: 0,
+            family: 0,
+            port: 0,
+            code: 0,
+            ip: ip,
+            start: 0,
+            size,
+        },
+        Value::Refused { number } => Typed {
+            number,
+            family: 0,
+            port: 0,
+            code: 0,
+            ip: ip,
+            start: 0,
+            size,
+        },
+    }
+}
+
+#[no_mangle]
+pub extern "C" fn cratehoist_check_integrity(datagram: &[u8], key: &[u8]) -> u8
+    ensures { λ r. ⌜ r ≡ integrityFault rfc5389 (now (datagram .entry)) (now (key .entry)) ⌝ }
+{
+    integrity::check_integrity(datagram, key)
+}

@@ -1,0 +1,48 @@
+-- The contracts of the calls determine their answers and the buffer.
+use Prim.Native.Nat.{ℕ}
+use mathlib.Core.List.{List}
+use Rattle.base.specs.Determined.{Determines, by}
+use Rattle.wire.specs.TypeNumber.{classNumbered, typeFrom}
+use Rattle.c_wire.specs.Said.{numbered, parted, formOf}
+use Rattle.c_wire.specs.declared.Address.{Address}
+use Rattle.c_wire.specs.declared.Formed.{Formed}
+use Rattle.c_wire.specs.declared.Id.{Id}
+use Rattle.wire.specs.declared.types.MessageClass.{MessageClass}
+use Rattle.c_wire.specs.declared.Numbered.{Numbered}
+use Rattle.c_wire.specs.declared.Parted.{Parted}
+use Rattle.c_wire.proofs.class_numbered.Kinds as class-numbered-kinds
+use Rattle.c_wire.proofs.class_numbered.Reads as class-numbered-reads
+use Rattle.c_wire.proofs.cratehoist_type_number.Kinds as type-number-kinds
+use Rattle.c_wire.proofs.cratehoist_type_number.Reads as type-number-reads
+use Rattle.c_wire.proofs.cratehoist_type_from.Kinds as type-from-kinds
+use Rattle.c_wire.proofs.cratehoist_type_from.Reads as type-from-reads
+use Rattle.c_wire.proofs.cratehoist_address_xor.Kinds as address-xor-kinds
+use Rattle.c_wire.proofs.cratehoist_address_xor.Reads as address-xor-reads
+
+pub determined-class-numbered : Determines class-numbered-kinds.ps class-numbered-kinds.r {I = ℕ} {A = MessageClass} class-numbered-reads.Asked class-numbered-reads.Learnt
+    (λ κs a. a .0) (λ κs z e. z)
+determined-class-numbered =
+    by class-numbered-kinds.ps class-numbered-kinds.r class-numbered-reads.Asked class-numbered-reads.Learnt _ _
+    (λ x. classNumbered x)
+    (λ κs a y d i q. q)
+
+pub determined-type-number : Determines type-number-kinds.ps type-number-kinds.r {I = ℕ × ℕ} {A = Numbered} type-number-reads.Asked type-number-reads.Learnt
+    (λ κs a. (a .0, a .1 .0)) (λ κs z e. z)
+determined-type-number =
+    by type-number-kinds.ps type-number-kinds.r type-number-reads.Asked type-number-reads.Learnt _ _
+    (λ x. numbered (x .0) (x .1))
+    (λ κs a y d i q. q)
+
+pub determined-type-from : Determines type-from-kinds.ps type-from-kinds.r {I = ℕ} {A = Parted} type-from-reads.Asked type-from-reads.Learnt
+    (λ κs a. a .0) (λ κs z e. z)
+determined-type-from =
+    by type-from-kinds.ps type-from-kinds.r type-from-reads.Asked type-from-reads.Learnt _ _
+    (λ x. parted (typeFrom x))
+    (λ κs a y d i q. q)
+
+pub determined-address-xor : Determines address-xor-kinds.ps address-xor-kinds.r {I = Address × Id} {A = Formed} address-xor-reads.Asked address-xor-reads.Learnt
+    (λ κs a. (a .0, a .1 .0)) (λ κs z e. z)
+determined-address-xor =
+    by address-xor-kinds.ps address-xor-kinds.r address-xor-reads.Asked address-xor-reads.Learnt _ _
+    (λ x. formOf (x .0) (x .1))
+    (λ κs a y d i q. q)

@@ -1,0 +1,25 @@
+use Rattle.c_wire.proofs.Sayings.{no-class, made, not-made}
+use borrow.Author.Needs.{needs}
+use Rattle.c_wire.proofs.cratehoist_type_number.Statement.{statement}
+use Rattle.c_wire.proofs.cratehoist_type_number.Tie as tie
+
+returns : tie.Need-returns
+returns c = search (no-class)
+
+returns-2 : tie.Need-returns-2
+returns-2 c = search (made)
+
+returns-3 : tie.Need-returns-3
+returns-3 c = search (not-made)
+
+pub cratehoist-type-number-spec : {M : Type 1} → statement M
+cratehoist-type-number-spec =
+    tie.close
+    (tie.spec
+    returns
+    (λ c κs. search needs)
+    (λ c κs. search needs)
+    (λ c. search needs)
+    (λ c. search needs)
+    returns-2
+    returns-3)

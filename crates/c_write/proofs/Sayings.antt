@@ -1,0 +1,53 @@
+-- What the calls return, case by case.
+use Prim.Native.Nat.{ℕ, _≤_, _<_}
+use mathlib.Core.List.{List}
+use mathlib.Core.Path.{_≡_, sym, ap, _∙_}
+use borrow.Author.Tests.{lt-ltb, le-ltb}
+use Rattle.wire.specs.TypeNumber.{classNumbered}
+use Rattle.wire.specs.declared.types.MessageClass.{MessageClass}
+use Rattle.begin.specs.Begin.{numberOf, sizeOf, begun, beginning}
+use Rattle.begin.specs.declared.Written as begin
+use Rattle.begin.specs.declared.Written.the-variants.{Total, Refused}
+use Rattle.plan.specs.declared.Plan as plan
+use Rattle.plan.specs.declared.Plan.the-variants.{Go, No}
+use Rattle.c_wire.specs.declared.Id.{Id}
+use Rattle.c_write.specs.Said.{told, begunBy, leftBy, planned}
+use Rattle.c_write.specs.declared.Written.{Written}
+
+module _ (w : begin.Written) where
+  pub total : {n : ℕ} → w ≡ Total n → record { number = 0; size = n } ≡ told w
+  unfolding told numberOf sizeOf
+  total e = ap told (sym e)
+
+  pub refused : {n : ℕ} → w ≡ Refused n → record { number = n; size = 0 } ≡ told w
+  unfolding told numberOf sizeOf
+  refused e = ap told (sym e)
+
+module _ (d : List ℕ) (c m : ℕ) where
+  pub no-class : 3 < c → record { number = 22; size = 0 } ≡ begunBy d c m
+  unfolding begunBy
+  no-class h = rw (lt-ltb 3 c h)
+
+  pub kept : (id : Id) → 3 < c → d ≡ leftBy d c m id
+  unfolding leftBy
+  kept id h = rw (lt-ltb 3 c h)
+
+  module _ (h : c ≤ 3) where
+    pub begins : {w : begin.Written} {r : Written} → w ≡ begun d (record { code = m }) → r ≡ told w → r ≡ begunBy d c m
+    unfolding begunBy
+    begins e f = rw (le-ltb 3 c h) (f ∙ ap told e)
+
+    pub leaves : {k : MessageClass} {b : List ℕ} (id : Id) → k ≡ classNumbered c
+        → b ≡ beginning d k (record { code = m }) (record { bytes = id .bytes }) → b ≡ leftBy d c m id
+    unfolding leftBy
+    leaves id e f =
+        rw (le-ltb 3 c h) (f ∙ ap (λ (x : MessageClass). beginning d x (record { code = m }) (record { bytes = id .bytes })) e)
+
+module _ {p x : plan.Plan} (e : p ≡ x) where
+  pub go : {a b t : ℕ} → p ≡ Go a b t → record { number = 0; place = a; body = b; total = t } ≡ planned x
+  unfolding planned
+  go f = ap planned (sym f ∙ e)
+
+  pub no : {n : ℕ} → p ≡ No n → record { number = n; place = 0; body = 0; total = 0 } ≡ planned x
+  unfolding planned
+  no f = ap planned (sym f ∙ e)

@@ -1,0 +1,9 @@
+use borrow.Author.Needs.{needs}
+use Rattle.c_write.proofs.cratehoist_append_unless.Statement.{statement}
+use Rattle.c_write.proofs.cratehoist_append_unless.Tie as tie
+
+returns : tie.Need-returns
+returns c = (cc, search needs)
+
+pub cratehoist-append-unless-spec : {M : Type 1} → statement M
+cratehoist-append-unless-spec = tie.close (tie.spec (λ c κs. search needs) (λ c κs. search needs) (λ c. search needs) returns)

@@ -1,0 +1,4 @@
+mod Blaming
+mod Runs
+mod Escaping
+mod Determined

@@ -1,0 +1,4 @@
+pub mod Span
+pub mod Blame
+pub mod Zeros
+pub mod Escape

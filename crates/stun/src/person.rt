@@ -1,0 +1,319 @@
+// What an attribute says, in its own terms: addresses, texts, error codes, lists of types, and hex where no rule says more.
+use crate::answers::minus;
+use crate::answers::part;
+use crate::answers::plus;
+use crate::say::decimal;
+use crate::say::hex;
+use crate::say::say;
+use crate::say::word;
+use names::Name;
+use net::Family;
+use numbers::u16_at;
+use rfc5389::Rule;
+use typed::Value;
+use wire::transaction_id::TransactionId;
+
+pub fn named(n: Name) {
+    let letters = n.text;
+    say(part(&letters, 0, n.size));
+}
+
+// So many blanks, up to 20.
+fn blanks(n: usize) {
+    say(part(b"                    ", 0, n));
+}
+
+// A number at the right of a column.
+pub fn column(n: usize, width: usize) {
+    let mut digits = [0u8; 20];
+    let k = io::decimal(n as u64, &mut digits);
+    blanks(minus(width, k));
+    say(&digits[..k]);
+}
+
+// A type's name, or its number where it has none.
+fn kind_name(kind: u16) {
+    let n = names::attribute(kind);
+    if n.size == 0 {
+        say(b"0x");
+        word(kind as u64, 4);
+        return;
+    }
+    named(n);
+}
+
+// How many characters that takes.
+fn name_size(kind: u16) -> usize {
+    let n = names::attribute(kind);
+    if n.size == 0 {
+        return 6;
+    }
+    n.size
+}
+
+// PLACE NAME SIZE, in columns.
+pub fn row(at: usize, kind: u16, size: usize) {
+    column(at, 5);
+    say(b"  ");
+    kind_name(kind);
+    blanks(minus(18, name_size(kind)));
+    column(size, 6);
+    say(b"  ");
+}
+
+// A number of docs/NUMBERS.md and what it is called there.
+pub fn number(n: u8) {
+    decimal(n as u64);
+    say(b", ");
+    named(names::number(n));
+}
+
+// Words in a colour where there are colours.
+fn painted(colour: bool, code: &[u8], words: &[u8]) {
+    if colour {
+        say(code);
+        say(words);
+        say(b"\x1b[0m");
+        return;
+    }
+    say(words);
+}
+
+pub fn good(colour: bool, words: &[u8]) {
+    painted(colour, b"\x1b[32m", words);
+}
+
+pub fn bad(colour: bool, words: &[u8]) {
+    painted(colour, b"\x1b[1;31m", words);
+}
+
+fn escaped(one: &[u8]) {
+    say(b"\\x");
+    hex(one);
+}
+
+// A quote and a backslash stand behind a backslash.
+fn ordinary(b: u8, one: &[u8]) {
+    if b == 34 {
+        say(b"\\");
+    }
+    if b == 92 {
+        say(b"\\");
+    }
+    say(one);
+}
+
+fn character(before: u8, b: u8, after: u8) {
+    let one = [b];
+    if display::is_escaped(before, b, after) {
+        escaped(&one);
+        return;
+    }
+    ordinary(b, &one);
+}
+
+// The byte at a place; nought where there is none.
+fn byte_at(s: &[u8], i: usize) -> u8 {
+    if s.len() <= i {
+        return 0;
+    }
+    s[i]
+}
+
+fn characters(s: &[u8]) {
+    let mut before = 0u8;
+    let mut i = 0;
+    while i < s.len() {
+        let b = s[i];
+        i += 1;
+        character(before, b, byte_at(s, i));
+        before = b;
+    }
+}
+
+fn quoted(s: &[u8]) {
+    say(b"\"");
+    characters(s);
+    say(b"\"");
+}
+
+fn two_of_four(high: u8, low: u8) {
+    decimal(high as u64);
+    say(b".");
+    decimal(low as u64);
+}
+
+fn ipv4(ip: &[u8]) {
+    two_of_four(byte_at(ip, 0), byte_at(ip, 1));
+    say(b".");
+    two_of_four(byte_at(ip, 2), byte_at(ip, 3));
+}
+
+fn group(n: u16, first: bool) {
+    if !first {
+        say(b":");
+    }
+    word(n as u64, 1);
+}
+
+// Groups in hex, from one place up to another, parted by colons.
+fn groups(g: &[u16], from: usize, to: usize) {
+    let mut i = from;
+    while i < to {
+        if g.len() <= i {
+            return;
+        }
+        group(g[i], i == from);
+        i += 1;
+    }
+}
+
+// All groups but a run of zeros, which two colons stand for.
+fn shortened(g: &[u16]) {
+    let z = display::longest_zeros(g);
+    let at = z.at;
+    let size = z.size;
+    if size == 0 {
+        groups(g, 0, 8);
+        return;
+    }
+    groups(g, 0, at);
+    say(b"::");
+    groups(g, plus(at, size), 8);
+}
+
+fn ipv6(ip: &[u8]) {
+    let g = [
+        u16_at(ip, 0),
+        u16_at(ip, 2),
+        u16_at(ip, 4),
+        u16_at(ip, 6),
+        u16_at(ip, 8),
+        u16_at(ip, 10),
+        u16_at(ip, 12),
+        u16_at(ip, 14),
+    ];
+    shortened(&g);
+}
+
+fn ip(family: Family, bytes: &[u8]) {
+    match family {
+        Family::Ipv4 => ipv4(bytes),
+        Family::Ipv6 => {
+            say(b"[");
+            ipv6(bytes);
+            say(b"]");
+        }
+    }
+}
+
+fn address(family: Family, port: u16, bytes: [u8; 16]) {
+    ip(family, &bytes);
+    say(b":");
+    decimal(port as u64);
+}
+
+fn meaning(n: Name) {
+    if n.size != 0 {
+        say(b" ");
+        named(n);
+    }
+}
+
+// The code, what it means, and the phrase.
+fn code(n: u16, phrase: &[u8]) {
+    decimal(n as u64);
+    meaning(names::code(n));
+    say(b", ");
+    quoted(phrase);
+}
+
+fn kind_in_list(kind: u16, first: bool) {
+    if !first {
+        say(b", ");
+    }
+    kind_name(kind);
+}
+
+fn types(s: &[u8]) {
+    let mut i = 0;
+    while i < s.len() {
+        kind_in_list(u16_at(s, i), i == 0);
+        if s.len() - i < 2 {
+            return;
+        }
+        i += 2;
+    }
+}
+
+fn bad_print(sum: u32, colour: bool) {
+    bad(colour, b", bad");
+    say(b": the bytes before it come to ");
+    word(sum as u64, 8);
+}
+
+// A FINGERPRINT beside what the bytes before it come to.
+fn checked_print(d: &[u8], at: usize, value: &[u8], colour: bool) {
+    let sum = fingerprint::fingerprint_at(d, at);
+    hex(value);
+    if numbers::u32_at(value, 0) == sum {
+        good(colour, b", good");
+        return;
+    }
+    bad_print(sum, colour);
+}
+
+fn raw(d: &[u8], at: usize, kind: u16, value: &[u8], colour: bool) {
+    if kind == fingerprint::FINGERPRINT {
+        checked_print(d, at, value, colour);
+        return;
+    }
+    hex(value);
+}
+
+fn list(value: &[u8]) {
+    if value.len() == 0 {
+        say(b"-");
+        return;
+    }
+    types(value);
+}
+
+// A value that says nothing but its bytes.
+fn plain(d: &[u8], at: usize, kind: u16, value: &[u8], colour: bool) {
+    let rule = rfc5389::rule_of(kind);
+    match rule {
+        Rule::Text => quoted(value),
+        Rule::Types => list(value),
+        _ => raw(d, at, kind, value, colour),
+    }
+}
+
+// A value at fault: why, and its bytes.
+fn faulty(n: u8, value: &[u8], colour: bool) {
+    bad(colour, b"at fault: ");
+    number(n);
+    say(b": ");
+    hex(value);
+}
+
+// What the value of the attribute at a place says.
+pub fn said(d: &[u8], at: usize, kind: u16, value: &[u8], id: TransactionId, colour: bool) {
+    let t = typed::value_of(kind, value, id);
+    let bytes = t.ip;
+    let v = t.value;
+    match v {
+        Value::Address { family, port } => address(family, port, bytes),
+        Value::Code { code: n } => code(n, typed::part_of(kind, value)),
+        Value::Plain => plain(d, at, kind, value, colour),
+        Value::Refused { number: n } => faulty(n, value, colour),
+    }
+}
+
+// Padding is shown where it isn't nought: three bytes at most, so four make a number.
+pub fn padding(s: &[u8]) {
+    if numbers::u32_at(s, 0) != 0 {
+        say(b", padding ");
+        hex(s);
+    }
+}

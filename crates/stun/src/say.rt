@@ -1,0 +1,48 @@
+// Output for a person, piece by piece: a write that fails makes the status 2, and the last one tells why.
+use crate::output::status;
+use libc::STDOUT_FILENO;
+
+fn noted(went: bool) {
+    if !went {
+        status(b"2");
+    }
+}
+
+pub fn say(s: &[u8]) {
+    noted(io::write_all(STDOUT_FILENO, s));
+}
+
+pub fn decimal(n: u64) {
+    noted(io::print_decimal(STDOUT_FILENO, n));
+}
+
+// A number in hex, with at least so many digits.
+pub fn word(n: u64, width: usize) {
+    noted(io::print_hex(STDOUT_FILENO, n, width));
+}
+
+fn byte(b: u8) {
+    word(b as u64, 2);
+}
+
+// Bytes in hex, and a dash for none.
+pub fn hex(s: &[u8]) {
+    if s.len() == 0 {
+        say(b"-");
+        return;
+    }
+    let mut i = 0;
+    while i < s.len() {
+        byte(s[i]);
+        i += 1;
+    }
+}
+
+// The end of the last line.
+pub fn end() {
+    if io::write_all(STDOUT_FILENO, b"\n") {
+        return;
+    }
+    os::fail(b"stun: standard output");
+    status(b"2");
+}
