@@ -11,7 +11,9 @@ use lib.Bits.{bitXor, xor-zero-r, xor-comm, xor-lt, xor-shifted, xor-block}
 use Rattle.base.specs.Xor.{xor-assoc, xor-swap}
 use Rattle.crc32.specs.Crc.{bitSteps, bytesFrom}
 use Rattle.crc32.specs.Octets.{octets, word}
-use Rattle.crc32.specs.CrcLaws.{bitSteps-xor, bitSteps-add, bitSteps-over, bitSteps-split, bitSteps-down, wider}
+use Rattle.crc32.specs.CrcLaws.{bitSteps-add, bitSteps-over, bitSteps-split, bitSteps-down, wider}
+use Rattle.crc32.specs.Rows.{Rows, fourBy}
+use Rattle.crc32.specs.RowsLaws.{four-by}
 use Rattle.crc32.specs.Waits.{over, register, spread, folded, Fits}
 use Rattle.crc32.specs.declared.Waiting.{Waiting}
 use Rattle.crc32.proofs.Walk.{Walked, walked-start, walked-rest, word-turn, next}
@@ -127,11 +129,9 @@ fold-is a b c d e w h g =
     t = x / 2 ^ 20
 
 -- the steps of eight bytes, four and four
-two-fours : (x : ℕ) → bitXor (octets 8 (x % 2 ^ 32)) (octets 4 (x / 2 ^ 32)) ≡ octets 8 x
+two-fours : (x : ℕ) → octets 4 (bitXor (octets 4 (x % 2 ^ 32)) (x / 2 ^ 32)) ≡ octets 8 x
 unfolding octets
-two-fours x =
-    ap (λ (i : ℕ). bitXor i (bitSteps 32 (x / 2 ^ 32))) (bitSteps-add 32 32 (x % 2 ^ 32))
-    ∙ sym (bitSteps-add 32 32 x ∙ ap (bitSteps 32) (bitSteps-split 32 x) ∙ bitSteps-xor 32 (bitSteps 32 (x % 2 ^ 32)) (x / 2 ^ 32))
+two-fours x = sym (bitSteps-add 32 32 x ∙ ap (bitSteps 32) (bitSteps-split 32 x))
 
 octets-over : (x y : ℕ) → octets 8 (over x y) ≡ bitXor (octets 8 x) y
 unfolding octets over
@@ -141,16 +141,26 @@ over-zero : (x : ℕ) → over x 0 ≡ x
 unfolding over
 over-zero x = xor-zero-r x
 
-pub settle-is : (a b c d e w u v : ℕ) → u ≡ octets 8 (bitXor a w % 2 ^ 32) → v ≡ octets 4 (bitXor a w / 2 ^ 32)
-    → over (bitXor b (bitXor u v)) (over c (over d (over e 0))) ≡ octets 8 (bitXor (over a (over b (over c (over d e)))) w)
-settle-is a b c d e w u v p q =
-    ap₂ (λ (i j : ℕ). over i (over c (over d j))) (xor-comm b (bitXor u v)) (over-zero e) ∙ sym (xor-over (bitXor u v) b (over c (over d e)))
-    ∙ sym
-    (ap (octets 8) (joined a y w) ∙ octets-over (bitXor a w) y
-    ∙ ap (λ (i : ℕ). bitXor i y) (sym (two-fours (bitXor a w)) ∙ ap₂ bitXor (sym p) (sym q)))
+pub settle-is : (t : List ℕ) (a b c d e w u v : ℕ) → Rows t → 128 ≤ length t → a < 2 ^ 64 → w < 2 ^ 64
+    → u ≡ fourBy t (bitXor a w % 2 ^ 32) → u < 2 ^ 32 → v ≡ fourBy t (bitXor u (bitXor a w / 2 ^ 32))
+    → over (bitXor b v) (over c (over d (over e 0))) ≡ octets 8 (bitXor (over a (over b (over c (over d e)))) w)
+settle-is t a b c d e w u v g l h k p small q =
+    ap₂ (λ (i j : ℕ). over i (over c (over d j))) (xor-comm b v) (over-zero e) ∙ sym (xor-over v b (over c (over d e)))
+    ∙ sym (ap (octets 8) (joined a y w) ∙ octets-over x y ∙ ap (λ (i : ℕ). bitXor i y) (sym (two-fours x) ∙ sym whole))
   where
     y : ℕ
     y = over b (over c (over d e))
+
+    x : ℕ
+    x = bitXor a w
+
+    first : u ≡ octets 4 (x % 2 ^ 32)
+    first = p ∙ four-by t (x % 2 ^ 32) g l (mod-lt x (pow-pos 32))
+
+    whole : v ≡ octets 4 (bitXor (octets 4 (x % 2 ^ 32)) (x / 2 ^ 32))
+    whole =
+        q ∙ four-by t (bitXor u (x / 2 ^ 32)) g l (xor-lt 32 u (x / 2 ^ 32) small (shr-lt 32 32 (xor-lt 64 a w h k)))
+        ∙ ap (λ (i : ℕ). octets 4 (bitXor i (x / 2 ^ 32))) first
 
 -- ---- how large it is
 

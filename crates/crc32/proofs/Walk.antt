@@ -7,14 +7,13 @@ use native.Mathlib.Nat.{div-eq-of-lt, le-of-eq}
 use native.Mathlib.Omega.{arith}
 use lib.ListN.{length, getD, take, drop, drop-of-length-le, length-take, length-drop, take-append-drop}
 use lib.Seq.{drop-cons, drop-drop, take-all}
-use lib.Pow.{shr-lt}
-use lib.Bits.{bitXor, xor-zero-r, xor-zero-l, xor-shr}
+use lib.Bits.{bitXor, xor-zero-r, xor-lt, xor-shr}
 use Rattle.base.specs.Bytes.{bytes, take-bytes, drop-bytes}
-use Rattle.base.specs.Xor.{xor-assoc}
 use Rattle.crc32.specs.Crc.{bitSteps, byteStep, bytesFrom}
 use Rattle.crc32.specs.Octets.{octets, word}
-use Rattle.crc32.specs.CrcLaws.{bitSteps-zero, bitSteps-split, bytesFrom-append, at-once, word-lt}
-use Rattle.crc32.specs.RowsLaws.{peel}
+use Rattle.crc32.specs.CrcLaws.{bitSteps-split, bytesFrom-append, at-once, word-lt}
+use Rattle.crc32.specs.Rows.{Rows, fourBy}
+use Rattle.crc32.specs.RowsLaws.{four-by}
 
 -- ---- the register over a slice
 
@@ -90,46 +89,12 @@ word-turn {c} {s} {r} {i} {n} {w} g h e p =
 pub four-lt : (s : List ℕ) (w : ℕ) → ((i : ℕ) → getD s i 0 < 256) → w ≡ word (take 4 s) → w < 2 ^ 32
 four-lt s w b e = rw e (word-lt 4 (take 4 s) (take-bytes 4 s (bytes s b)) (simp length-take (omega arith)))
 
-pub four-done : (s : List ℕ) (c : ℕ) {w r x : ℕ} → 4 ≤ length s → w ≡ word (take 4 s) → r ≡ octets 4 (bitXor c w)
+pub four-done : (t s : List ℕ) (c : ℕ) {w r x : ℕ} → Rows t → 128 ≤ length t → c < 2 ^ 32 → w < 2 ^ 32 → 4 ≤ length s → w ≡ word (take 4 s)
+    → r ≡ fourBy t (bitXor c w)
     → x ≡ bytesFrom r (take (length s - 4) (drop 4 s)) → x ≡ bytesFrom c s
-four-done s c {w} {r} {x} h e p q =
-    q ∙ ap₂ bytesFrom (p ∙ ap (λ (y : ℕ). octets 4 (bitXor c y)) e) (whole-rest s 4) ∙ part 4 s 0 c (omega arith)
-
--- ---- the steps of n bytes: the register's own four, from the lowest, and then it is nought
-
-pub record Stepped (n x a y k : ℕ) : Type 0 where
-  pub few : k ≤ n
-  pub enough : n ≤ k + 4
-  pub small : y < 2 ^ (8 * (k + 4 - n))
-  pub same : bitXor a (octets k y) ≡ octets n x
-
-pub stepped-start : (n x : ℕ) → x < 2 ^ 32 → Stepped n x 0 x n
-stepped-start n x h =
-    let q : 8 * (n + 4 - n) ≡ 32 = omega arith in
-    record { few = omega arith; enough = omega arith; small = rw q h; same = xor-zero-l (octets n x) }
-
-pub step-turn : {n x a y k v : ℕ} → Stepped n x a y k → n - 4 < k → v ≡ octets (suc (k - 1)) (y % 256) → Stepped n x (bitXor a v) (y / 256) (k - 1)
-step-turn {n} {x} {a} {y} {k} {v} g h e =
-    let q : suc (k - 1) ≡ k = omega arith in
-    let j : ℕ = 8 * (k - 1 + 4 - n) in
-    let i : 8 * (k + 4 - n) ≡ j + 8 = omega (arith, g .enough) in
-    record {
-      few = omega (arith, g .few);
-      enough = omega arith;
-      small = shr-lt j 8 (rw i at (g .small));
-      same =
-          xor-assoc a v (octets (k - 1) (y / 256)) ∙ ap (λ (z : ℕ). bitXor a (bitXor z (octets (k - 1) (y / 256)))) e
-          ∙ ap (bitXor a) (sym (peel (k - 1) y) ∙ ap (λ (j : ℕ). octets j y) q)
-          ∙ g .same;
-    }
-
-pub stepped-done : {n x a y k : ℕ} → Stepped n x a y k → k ≤ n - 4 → 4 ≤ n → a ≡ octets n x
-unfolding octets
-stepped-done {n} {x} {a} {y} {k} g h l =
-    let q : 8 * (k + 4 - n) ≡ 0 = omega (arith, g .enough) in
-    let i : y < 2 ^ 0 = rw q at (g .small) in
-    let z : y ≡ 0 = omega arith in
-    sym (ap (λ (j : ℕ). bitXor a (octets k j)) z ∙ ap (bitXor a) (bitSteps-zero (8 * k)) ∙ xor-zero-r a) ∙ g .same
+four-done t s c {w} {r} {x} g l i k h e p q =
+    q ∙ ap₂ bytesFrom (p ∙ four-by t (bitXor c w) g l (xor-lt 32 c w i k) ∙ ap (λ (y : ℕ). octets 4 (bitXor c y)) e) (whole-rest s 4)
+    ∙ part 4 s 0 c (omega arith)
 
 -- ---- bytes read as a word, from the last
 

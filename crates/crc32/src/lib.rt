@@ -2,7 +2,7 @@
 ghost use mathlib.Core.Path.{_≡_};
 ghost use Prim.Native.Nat.{suc, _+_, _*_, _/_, _^_, _≤_, _<_, _%_};
 ghost use lib.Bits.{bitXor};
-ghost use lib.ListN.{length};
+ghost use lib.ListN.{length, take};
 ghost use Rattle.crc32.specs.Crc.{bytesFrom, finished, crc32Of};
 ghost use Rattle.crc32.specs.Octets.{octets, word, times};
 ghost use Rattle.crc32.specs.Rows.{Rows, halves, fourBy};
@@ -22,7 +22,7 @@ pub fn update(c: u32, s: &[u8]) -> u32
         let t = tables::TWO_ROWS;
         bytes(&t, c, s)
     } else {
-        let t = tables::SIXTEEN_ROWS;
+        let t = tables::EIGHT_ROWS;
         words(&t, c, s)
     }
 }
@@ -78,7 +78,7 @@ pub fn product(t: u32, m: u32) -> u32
 
 // The low byte of `x` by its halves, with the steps of the `k` bytes behind it.
 fn look(t: &[u32], k: usize, x: u32) -> u32
-    requires { ⌜ (k * 32 + 32 ≤ length (now t)) × (k < 8) ⌝ }
+    requires { ⌜ (k * 32 + 32 ≤ length (now t)) × (k < 4) ⌝ }
     ensures { λ r. ⌜ r ≡ halves (now (t .entry)) k x ⌝ }
 {
     let high = k * 32 + ((x / 16 % 16) as usize);
@@ -86,17 +86,24 @@ fn look(t: &[u32], k: usize, x: u32) -> u32
     t[low] ^ t[high]
 }
 
-// The steps of four bytes by a table that the caller lends, `tables::SIXTEEN_ROWS` or the first half of it: for one who takes few
-// steps at a time, many times.
+// The steps of four bytes. The look-ups do not wait for each other.
+fn four(t: &[u32], x: u32) -> u32
+    requires { ⌜ 128 ≤ length (now t) ⌝ }
+    ensures { λ r. ⌜ r ≡ fourBy (now (t .entry)) x ⌝ }
+{
+    let a = look(t, 3, x) ^ look(t, 2, x / 256);
+    let b = look(t, 1, x / 65536) ^ look(t, 0, x / 16777216);
+    a ^ b
+}
+
+// The same by a table that the caller lends, `tables::EIGHT_ROWS`: for one who takes few steps at a time, many times.
 pub fn four_by(t: &[u32], x: u32) -> u32
     ensures { λ r. ⌜ r ≡ fourBy (now (t .entry)) x ⌝ }
 {
     if t.len() < 128 {
         return 0;
     }
-    let a = look(t, 3, x) ^ look(t, 2, x / 256);
-    let b = look(t, 1, x / 65536) ^ look(t, 0, x / 16777216);
-    a ^ b
+    four(t, x)
 }
 
 // A byte a turn.
@@ -112,22 +119,6 @@ fn bytes(t: &[u32], c: u32, s: &[u8]) -> u32
         i += 1;
     }
     r
-}
-
-// The steps of `n` bytes. The four look-ups do not wait for each other.
-fn steps(t: &[u32], n: usize, x: u32) -> u32
-    requires { ⌜ Rows (now t) × (n * 32 ≤ length (now t)) × (4 ≤ n) × (n ≤ 8) ⌝ }
-    ensures { λ r. ⌜ r ≡ octets n x ⌝ }
-{
-    let mut a: u32 = 0;
-    let mut y = x;
-    let mut k = n;
-    while n - 4 < k {
-        k -= 1;
-        a = a ^ look(t, k, y);
-        y = y >> 8;
-    }
-    a
 }
 
 // ---- by words of eight bytes: each is folded into words behind it by shifts alone, and only the last five go through the table
@@ -155,6 +146,14 @@ fn word_of(s: &[u8]) -> u64
     w
 }
 
+// The first four bytes.
+fn first_four(s: &[u8]) -> u32
+    requires { ⌜ 4 ≤ length (now s) ⌝ }
+    ensures { λ r. ⌜ r ≡ word (take 4 (now (s .entry))) ⌝ }
+{
+    word_of(&s[0..4]) as u32
+}
+
 // The polynomial divides x^300 + x^155 + x^117 + x^89 + 1, so the next word, `w` with what waited for it, may as well be
 // added 145, 183, 211 and 300 bits further on: to the second to the fifth word behind it.
 fn fold(f: Waiting, w: u64) -> Waiting
@@ -172,15 +171,15 @@ fn fold(f: Waiting, w: u64) -> Waiting
 
 // The next word goes through its steps.
 fn settle(t: &[u32], f: Waiting, w: u64) -> Waiting
-    requires { ⌜ Rows (now t) × (256 ≤ length (now t)) ⌝ }
+    requires { ⌜ Rows (now t) × (128 ≤ length (now t)) ⌝ }
     ensures { λ r. ⌜ register r ≡ octets 8 (bitXor (register f) w) ⌝ }
 {
     let x = f.a ^ w;
     let low = (x % 0x1_0000_0000) as u32;
     let high = (x / 0x1_0000_0000) as u32;
-    let whole = (steps(t, 8, low) as u64) ^ (steps(t, 4, high) as u64);
+    let whole = four(t, four(t, low) ^ high);
     Waiting {
-        a: f.b ^ whole,
+        a: f.b ^ (whole as u64),
         b: f.c,
         c: f.d,
         d: f.e,
@@ -190,7 +189,7 @@ fn settle(t: &[u32], f: Waiting, w: u64) -> Waiting
 
 // Folds a word a turn, as long as five are left behind it.
 fn words(t: &[u32], c: u32, s: &[u8]) -> u32
-    requires { ⌜ Rows (now t) × (256 ≤ length (now t)) ⌝ }
+    requires { ⌜ Rows (now t) × (128 ≤ length (now t)) ⌝ }
     ensures { λ r. ⌜ r ≡ bytesFrom c (now (s .entry)) ⌝ }
 {
     let mut f = Waiting {
@@ -211,7 +210,7 @@ fn words(t: &[u32], c: u32, s: &[u8]) -> u32
 
 // The words that are left, and what is less than a word.
 fn last_words(t: &[u32], f: Waiting, s: &[u8]) -> u32
-    requires { ⌜ Rows (now t) × (256 ≤ length (now t)) × Fits (register f) (length (now s)) ⌝ }
+    requires { ⌜ Rows (now t) × (128 ≤ length (now t)) × Fits (register f) (length (now s)) ⌝ }
     ensures { λ r. ⌜ r ≡ bytesFrom (register f) (now (s .entry)) ⌝ }
 {
     let mut g = f;
@@ -226,12 +225,11 @@ fn last_words(t: &[u32], f: Waiting, s: &[u8]) -> u32
 
 // Less than a word: four bytes at once, where there are so many.
 fn tail(t: &[u32], c: u32, s: &[u8]) -> u32
-    requires { ⌜ Rows (now t) × (256 ≤ length (now t)) ⌝ }
+    requires { ⌜ Rows (now t) × (128 ≤ length (now t)) ⌝ }
     ensures { λ r. ⌜ r ≡ bytesFrom c (now (s .entry)) ⌝ }
 {
     if s.len() < 4 {
         return bytes(t, c, s);
     }
-    let w = word_of(&s[0..4]) as u32;
-    bytes(t, steps(t, 4, c ^ w), &s[4..])
+    bytes(t, four(t, c ^ first_four(s)), &s[4..])
 }

@@ -381,7 +381,7 @@ fn printed_from(d: &[u8], front: Front) -> Scan
     if d.len() - front.at <= 8 {
         return prints(&[], d, front.at, front.count);
     }
-    let t = crc32::tables::SIXTEEN_ROWS;
+    let t = crc32::tables::EIGHT_ROWS;
     prints(&t, d, front.at, front.count)
 }
 

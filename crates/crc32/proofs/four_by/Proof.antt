@@ -1,4 +1,4 @@
-use Rattle.crc32.proofs.Halves.{too-few, four-are}
+use Rattle.crc32.proofs.Halves.{too-few}
 use borrow.Author.Needs.{needs}
 use Rattle.crc32.proofs.four_by.Statement.{statement}
 use Rattle.crc32.proofs.four_by.Tie as tie
@@ -6,16 +6,5 @@ use Rattle.crc32.proofs.four_by.Tie as tie
 returns : tie.Need-returns
 returns c = search (too-few)
 
-returns-2 : tie.Need-returns-2
-returns-2 c = search (four-are)
-
 pub four-by-spec : {M : Type 1} → statement M
-four-by-spec =
-    tie.close
-    (tie.spec
-    returns
-    (λ c κs. search needs)
-    (λ c κs. search needs)
-    (λ c κs. search needs)
-    (λ c κs. search needs)
-    returns-2)
+four-by-spec = tie.close (tie.spec returns (λ c κs. search needs) (λ c. search needs))

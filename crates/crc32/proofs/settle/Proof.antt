@@ -16,4 +16,4 @@ returns c = search (settle-is)
 
 pub settle-spec : {M : Type 1} → statement M
 settle-spec =
-    tie.close (tie.spec (λ c. search needs) cast-high (λ c κs. search needs) (λ c. search needs) (λ c κs. search needs) (λ c. search needs) returns)
+    tie.close (tie.spec (λ c. search needs) cast-high (λ c κs. search needs) (λ c κs. search needs) (λ c. search needs) returns)
