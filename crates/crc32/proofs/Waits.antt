@@ -3,7 +3,7 @@ use mathlib.Core.Path.{_≡_, refl, sym, ap, ap₂, _∙_}
 use mathlib.Core.Logic.{_⊎_, inl, inr, ⊎-elim}
 use mathlib.Core.List.{List}
 use Prim.Native.Nat.{ℕ, zero, suc, _+_, _-_, _*_, _/_, _%_, _^_, _≤_, _<_}
-use native.Mathlib.Nat.{add-zero, sub-zero, mod-lt}
+use native.Mathlib.Nat.{add-zero, sub-zero, mod-lt, mul-assoc}
 use native.Mathlib.Omega.{arith}
 use lib.ListN.{length, drop, take, length-take, length-drop}
 use lib.Pow.{pow-pos, shl-lt, shl-shr, shr-shr, shr-lt, split, high, low}
@@ -14,10 +14,10 @@ use Rattle.crc32.specs.Octets.{octets, word}
 use Rattle.crc32.specs.CrcLaws.{bitSteps-add, bitSteps-over, bitSteps-split, bitSteps-down, wider}
 use Rattle.crc32.specs.Rows.{Rows, fourBy}
 use Rattle.crc32.specs.RowsLaws.{four-by}
-use Rattle.crc32.specs.Waits.{over, register, spread, folded, Fits}
+use Rattle.crc32.specs.Waits.{over, register, Taps, tap, both, spread, far, seven, near, folded, Fits}
 use Rattle.crc32.specs.declared.Waiting.{Waiting}
 use Rattle.crc32.proofs.Walk.{Walked, walked-start, walked-rest, word-turn, next}
-use Rattle.crc32.proofs.Multiple.{fold-same}
+use Rattle.crc32.proofs.Multiple.{Multiple, beyond, far-multiple, near-multiple, spread-lt, fold-same}
 
 -- ---- words above each other
 
@@ -41,6 +41,10 @@ xor-over : (x u v : ℕ) → bitXor x (over u v) ≡ over (bitXor x u) v
 unfolding over
 xor-over x u v = sym (xor-assoc x u (v * 2 ^ 64))
 
+over-zero : (x : ℕ) → over x 0 ≡ x
+unfolding over
+over-zero x = xor-zero-r x
+
 over-is : (x y : ℕ) → x < 2 ^ 64 → over x y ≡ y * 2 ^ 64 + x
 unfolding over
 over-is x y h = xor-comm x (y * 2 ^ 64) ∙ xor-shifted y 64 x h
@@ -55,29 +59,21 @@ shifted k j x e =
     top : x * 2 ^ k / 2 ^ 64 ≡ x / 2 ^ j
     top = ap (λ (n : ℕ). x * 2 ^ k / 2 ^ n) (sym e) ∙ sym (shr-shr (x * 2 ^ k) k j) ∙ ap (λ (y : ℕ). y / 2 ^ j) (shl-shr x k)
 
-spread-words : (x : ℕ)
-    → spread x
-    ≡ over 0
-    (over (bitXor (x * 2 ^ 17 % 2 ^ 64) (x * 2 ^ 55 % 2 ^ 64))
-    (over (bitXor (bitXor (x / 2 ^ 47) (x / 2 ^ 9)) (x * 2 ^ 19 % 2 ^ 64))
-    (over (bitXor (x / 2 ^ 45) (x * 2 ^ 44 % 2 ^ 64)) (x / 2 ^ 20))))
-unfolding spread
-spread-words x =
-    ap (over 0)
-    (ap₂ over
-    (ap₂ bitXor (shifted 17 47 x refl) (shifted 55 9 x refl)
-    ∙ over-xor (x * 2 ^ 17 % 2 ^ 64) (x / 2 ^ 47) (x * 2 ^ 55 % 2 ^ 64) (x / 2 ^ 9))
-    (ap₂ over (shifted 19 45 x refl) (shifted 44 20 x refl)
-    ∙ over-over (x * 2 ^ 19 % 2 ^ 64) (x / 2 ^ 45) (over (x * 2 ^ 44 % 2 ^ 64) (x / 2 ^ 20))
-    ∙ ap (over (x * 2 ^ 19 % 2 ^ 64)) (xor-over (x / 2 ^ 45) (x * 2 ^ 44 % 2 ^ 64) (x / 2 ^ 20)))
-    ∙ over-over (bitXor (x * 2 ^ 17 % 2 ^ 64) (x * 2 ^ 55 % 2 ^ 64)) h (over (x * 2 ^ 19 % 2 ^ 64) y)
-    ∙ ap (over (bitXor (x * 2 ^ 17 % 2 ^ 64) (x * 2 ^ 55 % 2 ^ 64))) (xor-over h (x * 2 ^ 19 % 2 ^ 64) y))
-  where
-    h : ℕ
-    h = bitXor (x / 2 ^ 47) (x / 2 ^ 9)
+-- the lowest word of what is spread over two, and the word above
+abbrev low-word : Taps → ℕ → ℕ
+low-word (tap j) x = x * 2 ^ j % 2 ^ 64
+low-word (both s t) x = bitXor (low-word s x) (low-word t x)
 
-    y : ℕ
-    y = over (bitXor (x / 2 ^ 45) (x * 2 ^ 44 % 2 ^ 64)) (x / 2 ^ 20)
+abbrev high-word : Taps → ℕ → ℕ
+high-word (tap j) x = x / 2 ^ (64 - j)
+high-word (both s t) x = bitXor (high-word s x) (high-word t x)
+
+in-words : (t : Taps) (x : ℕ) → beyond t 64 ≡ 0 → spread t x ≡ over (low-word t x) (high-word t x)
+unfolding spread
+in-words (tap j) x e = shifted j (64 - j) x (omega arith)
+in-words (both s t) x e =
+    ap₂ bitXor (in-words s x (omega arith)) (in-words t x (omega arith))
+    ∙ over-xor (low-word s x) (high-word s x) (low-word t x) (high-word t x)
 
 over-high : (x y : ℕ) → x < 2 ^ 64 → over x y / 2 ^ 64 ≡ y
 over-high x y h = ap (λ (n : ℕ). n / 2 ^ 64) (over-is x y h) ∙ high y 64 h
@@ -91,42 +87,89 @@ joined : (a y w : ℕ) → bitXor (over a y) w ≡ over (bitXor a w) y
 unfolding over
 joined a y w = xor-assoc a (y * 2 ^ 64) w ∙ ap (bitXor a) (xor-comm (y * 2 ^ 64) w) ∙ sym (xor-assoc a w (y * 2 ^ 64))
 
-pub fold-is : (a b c d e w : ℕ) → a < 2 ^ 64 → w < 2 ^ 64
+-- the next word, a with w, goes to the taps
+folded-over : (t : Taps) (a y w : ℕ) → a < 2 ^ 64 → w < 2 ^ 64 → folded t (bitXor (over a y) w) ≡ bitXor y (spread t (bitXor a w))
+unfolding folded
+folded-over t a y w h g =
+    let l : bitXor a w < 2 ^ 64 = xor-lt 64 a w h g in
+    ap (λ (n : ℕ). bitXor (n / 2 ^ 64) (spread t (n % 2 ^ 64))) (joined a y w)
+    ∙ ap₂ (λ (i j : ℕ). bitXor i (spread t j)) (over-high (bitXor a w) y l) (over-low (bitXor a w) y l)
+
+far-words : (x : ℕ) → spread far x ≡ over 0 (over (spread (both (tap 17) (tap 55)) x) (over (spread (tap 19) x) (spread (tap 44) x)))
+unfolding far spread over
+far-words x = sym (simp (times-word, mul-assoc))
+
+pub far-is : (a b c d e w : ℕ) → a < 2 ^ 64 → w < 2 ^ 64
     → over b
     (over (bitXor c (bitXor (bitXor a w * 2 ^ 17 % 2 ^ 64) (bitXor a w * 2 ^ 55 % 2 ^ 64)))
     (over (bitXor d (bitXor (bitXor (bitXor a w / 2 ^ 47) (bitXor a w / 2 ^ 9)) (bitXor a w * 2 ^ 19 % 2 ^ 64)))
     (over (bitXor e (bitXor (bitXor a w / 2 ^ 45) (bitXor a w * 2 ^ 44 % 2 ^ 64))) (bitXor a w / 2 ^ 20))))
-    ≡ folded (bitXor (over a (over b (over c (over d e)))) w)
-unfolding folded
-fold-is a b c d e w h g =
+    ≡ folded far (bitXor (over a (over b (over c (over d e)))) w)
+far-is a b c d e w h g =
     sym
-    (ap (λ (n : ℕ). bitXor (n / 2 ^ 64) (spread (n % 2 ^ 64))) (joined a y w)
-    ∙ ap₂ (λ (i j : ℕ). bitXor i (spread j)) (over-high x y l) (over-low x y l)
-    ∙ ap (bitXor y) (spread-words x)
-    ∙ over-xor b (over c (over d e)) 0 (over p (over q (over r t)))
+    (folded-over far a (over b (over c (over d e))) w h g ∙ ap (bitXor (over b (over c (over d e)))) (far-words x)
+    ∙ over-xor b (over c (over d e)) 0 (over (spread s x) y)
     ∙ ap₂ over (xor-zero-r b)
-    (over-xor c (over d e) p (over q (over r t)) ∙ ap (over (bitXor c p)) (over-xor d e q (over r t) ∙ ap (over (bitXor d q)) (xor-over e r t))))
+    (ap (bitXor (over c (over d e))) (ap₂ over (in-words s x refl) rest ∙ over-over p q (over i (over k j)) ∙ ap (over p) (xor-over q i (over k j)))
+    ∙ over-xor c (over d e) p (over (bitXor q i) (over k j))
+    ∙ ap (over (bitXor c p)) (over-xor d e (bitXor q i) (over k j) ∙ ap (over (bitXor d (bitXor q i))) (xor-over e k j))))
   where
-    y : ℕ
-    y = over b (over c (over d e))
-
     x : ℕ
     x = bitXor a w
 
-    l : x < 2 ^ 64
-    l = xor-lt 64 a w h g
+    s : Taps
+    s = both (tap 17) (tap 55)
+
+    y : ℕ
+    y = over (spread (tap 19) x) (spread (tap 44) x)
 
     p : ℕ
-    p = bitXor (x * 2 ^ 17 % 2 ^ 64) (x * 2 ^ 55 % 2 ^ 64)
+    p = low-word s x
 
     q : ℕ
-    q = bitXor (bitXor (x / 2 ^ 47) (x / 2 ^ 9)) (x * 2 ^ 19 % 2 ^ 64)
+    q = high-word s x
 
-    r : ℕ
-    r = bitXor (x / 2 ^ 45) (x * 2 ^ 44 % 2 ^ 64)
+    i : ℕ
+    i = x * 2 ^ 19 % 2 ^ 64
 
-    t : ℕ
-    t = x / 2 ^ 20
+    k : ℕ
+    k = bitXor (x / 2 ^ 45) (x * 2 ^ 44 % 2 ^ 64)
+
+    j : ℕ
+    j = x / 2 ^ 20
+
+    rest : y ≡ over i (over k j)
+    rest =
+        ap₂ over (in-words (tap 19) x refl) (in-words (tap 44) x refl) ∙ over-over i (x / 2 ^ 45) (over (x * 2 ^ 44 % 2 ^ 64) j)
+        ∙ ap (over i) (xor-over (x / 2 ^ 45) (x * 2 ^ 44 % 2 ^ 64) j)
+
+pub near-is : (a b c d e w : ℕ) → a < 2 ^ 64 → w < 2 ^ 64
+    → over (bitXor (bitXor b (bitXor a w)) (low-word seven (bitXor a w)))
+    (over (bitXor c (high-word seven (bitXor a w))) (over d (over e 0)))
+    ≡ folded near (bitXor (over a (over b (over c (over d e)))) w)
+unfolding near spread
+near-is a b c d e w h g =
+    ap₂ (λ (i j : ℕ). over i (over (bitXor c (high-word seven x)) (over d j))) (xor-assoc b x p) (over-zero e)
+    ∙ sym
+    (folded-over near a (over b y) w h g
+    ∙ ap (bitXor (over b y)) (ap₂ bitXor one (in-words seven x refl) ∙ xor-over x p q)
+    ∙ over-xor b y (bitXor x p) q
+    ∙ ap (over (bitXor b (bitXor x p))) (joined c (over d e) q))
+  where
+    x : ℕ
+    x = bitXor a w
+
+    y : ℕ
+    y = over c (over d e)
+
+    p : ℕ
+    p = low-word seven x
+
+    q : ℕ
+    q = high-word seven x
+
+    one : x * 2 ^ 0 ≡ x
+    one = omega arith
 
 -- the steps of eight bytes, four and four
 two-fours : (x : ℕ) → octets 4 (bitXor (octets 4 (x % 2 ^ 32)) (x / 2 ^ 32)) ≡ octets 8 x
@@ -136,10 +179,6 @@ two-fours x = sym (bitSteps-add 32 32 x ∙ ap (bitSteps 32) (bitSteps-split 32 
 octets-over : (x y : ℕ) → octets 8 (over x y) ≡ bitXor (octets 8 x) y
 unfolding octets over
 octets-over x y = bitSteps-over 64 x y
-
-over-zero : (x : ℕ) → over x 0 ≡ x
-unfolding over
-over-zero x = xor-zero-r x
 
 pub settle-is : (t : List ℕ) (a b c d e w u v : ℕ) → Rows t → 128 ≤ length t → a < 2 ^ 64 → w < 2 ^ 64
     → u ≡ fourBy t (bitXor a w % 2 ^ 32) → u < 2 ^ 32 → v ≡ fourBy t (bitXor u (bitXor a w / 2 ^ 32))
@@ -164,36 +203,7 @@ settle-is t a b c d e w u v g l h k p small q =
 
 -- ---- how large it is
 
-over-lt : (j x y : ℕ) → x < 2 ^ (j + 64) → y < 2 ^ j → over x y < 2 ^ (j + 64)
-unfolding over
-over-lt j x y h g = xor-lt (j + 64) x (y * 2 ^ 64) h (shl-lt j 64 g)
-
-spread-lt : (x : ℕ) → x < 2 ^ 64 → spread x < 2 ^ 300
-unfolding spread
-spread-lt x h =
-    over-lt 236 0 (over (bitXor (x * 2 ^ 17) (x * 2 ^ 55)) (over (x * 2 ^ 19) (x * 2 ^ 44))) (pow-pos 300)
-    (over-lt 172 (bitXor (x * 2 ^ 17) (x * 2 ^ 55)) (over (x * 2 ^ 19) (x * 2 ^ 44))
-    (xor-lt 236 (x * 2 ^ 17) (x * 2 ^ 55) (up 17 236 (omega arith)) (up 55 236 (omega arith)))
-    (over-lt 108 (x * 2 ^ 19) (x * 2 ^ 44) (up 19 172 (omega arith)) (up 44 108 (omega arith))))
-  where
-    up : (k n : ℕ) → 64 + k ≤ n → x * 2 ^ k < 2 ^ n
-    up k n l = wider (64 + k) n (shl-lt 64 k h) l
-
-pub folded-lt : (n : ℕ) → n < 2 ^ 320 → folded n < 2 ^ 320
-unfolding folded
-folded-lt n h =
-    xor-lt 320 (n / 2 ^ 64) (spread (n % 2 ^ 64)) (wider 256 320 (shr-lt 256 64 h) (omega arith))
-    (wider 300 320 (spread-lt (n % 2 ^ 64) (mod-lt n (pow-pos 64))) (omega arith))
-
-pub fits-small : (n m : ℕ) → n < 2 ^ 32 → Fits n m
-unfolding Fits
-fits-small n m h = inl h
-
-pub fits-five : (n m : ℕ) → n < 2 ^ 320 → 40 ≤ m → Fits n m
-unfolding Fits
-fits-five n m h l = inr (wider 320 (64 * (m / 8)) h (omega arith))
-
-pub fits-end : (n m : ℕ) → Fits n m → m < 8 → n < 2 ^ 32
+fits-end : (n m : ℕ) → Fits n m → m < 8 → n < 2 ^ 32
 unfolding Fits
 fits-end n m (inl h) l = h
 fits-end n m (inr h) l =
@@ -212,13 +222,27 @@ settled-lt (suc j) m y p h =
     let e : 64 * suc j ≡ 64 * (m / 8) = omega arith in
     inr (rw e at (bitSteps-down 64 (64 * suc j) y (omega arith) h))
 
-pub fits-settled : (n m w : ℕ) → Fits n m → 8 ≤ m → w < 2 ^ 64 → Fits (octets 8 (bitXor n w)) (m - 8)
+joined-lt : (n m w : ℕ) → Fits n m → 8 ≤ m → w < 2 ^ 64 → bitXor n w < 2 ^ (64 + 64 * ((m - 8) / 8))
 unfolding Fits
-fits-settled n m w (inl h) l g = inl (settled-32 (bitXor n w) (xor-lt 64 n w (wider 32 64 h (omega arith)) g))
-fits-settled n m w (inr h) l g =
-    let j : ℕ = (m - 8) / 8 in
-    let e : 64 * (m / 8) ≡ 64 + 64 * ((m - 8) / 8) = omega arith in
-    settled-lt j (m - 8) (bitXor n w) refl (xor-lt (64 + 64 * j) n w (rw e at h) (wider 64 (64 + 64 * j) g (omega arith)))
+joined-lt n m w f l g =
+    let j : ℕ = 64 + 64 * ((m - 8) / 8) in
+    let e : 64 * (m / 8) ≡ j = omega arith in
+    xor-lt j n w (⊎-elim (λ h. wider 32 j h (omega arith)) (λ h. rw e at h) f) (wider 64 j g (omega arith))
+
+fits-settled : (n m w : ℕ) → Fits n m → 8 ≤ m → w < 2 ^ 64 → Fits (octets 8 (bitXor n w)) (m - 8)
+fits-settled n m w f l g = settled-lt ((m - 8) / 8) (m - 8) (bitXor n w) refl (joined-lt n m w f l g)
+
+fits-folded : {t : Taps} {k : ℕ} → Multiple t k → (n m w : ℕ) → Fits n m → w < 2 ^ 64 → 64 + k ≤ 64 * ((m - 8) / 8)
+    → Fits (folded t (bitXor n w)) (m - 8)
+unfolding Fits folded
+fits-folded {t} {k} d n m w f g l =
+    let y : ℕ = bitXor n w in
+    let j : ℕ = 64 * ((m - 8) / 8) in
+    let e : 64 + j ≡ j + 64 = omega arith in
+    let h : y < 2 ^ (j + 64) = rw e at (joined-lt n m w f (omega arith) g) in
+    inr
+    (xor-lt j (y / 2 ^ 64) (spread t (y % 2 ^ 64)) (shr-lt j 64 h)
+    (wider (64 + k) j (spread-lt t k (y % 2 ^ 64) (mod-lt y (pow-pos 64)) (d .within)) l))
 
 -- a register of 32 digits is its lowest word
 lowest : (f : Waiting) → f .a < 2 ^ 64 → register f < 2 ^ 32 → register f ≡ f .a
@@ -227,63 +251,65 @@ lowest f h l = omega (arith, over-is (f .a) (over (f .b) (over (f .c) (over (f .
 
 -- ---- the loops over words
 
--- what is folded so far: five words wait, or none but the register
-pub record Folding (c : ℕ) (s : List ℕ) (n i : ℕ) : Type 0 where
-  pub walked : Walked c s n i
-  pub five : n < 2 ^ 320
-  pub wait : (n < 2 ^ 32) ⊎ (40 ≤ length s - i)
-
-fresh : (c : ℕ) → register (record { a = c; b = 0; c = 0; d = 0; e = 0 }) ≡ c
+pub alone-is : (a : ℕ) → register (record { a = a; b = 0; c = 0; d = 0; e = 0 }) ≡ a
 unfolding register over
-fresh c = xor-zero-r c
+alone-is a = xor-zero-r a
 
-pub folding-start : (c : ℕ) (s : List ℕ) → c < 2 ^ 32 → Folding c s (register (record { a = c; b = 0; c = 0; d = 0; e = 0 })) 0
-folding-start c s h = rw fresh (record { walked = walked-start c s; five = wider 32 320 h (omega arith); wait = inl h })
-
-pub folding-turn : {c : ℕ} {s : List ℕ} {n i w m : ℕ} → Folding c s n i → 48 ≤ length s - i → w < 2 ^ 64 → w ≡ word (next s i)
-    → m ≡ folded (bitXor n w) → Folding c s m (i + 8)
-folding-turn {c} {s} {n} {i} {w} {m} g h l e p =
-    record {
-      walked =
-          word-turn (g .walked) (omega arith) e
-          (ap (λ (x : ℕ). bytesFrom x (drop (i + 8) s)) p
-          ∙ fold-same (bitXor n w) (drop (i + 8) s) (omega (arith, length-drop (i + 8) s)));
-      five = rw p (folded-lt (bitXor n w) (xor-lt 320 n w (g .five) (wider 64 320 l (omega arith))));
-      wait = inr (omega arith);
-    }
-
-pub folding-fits : {c : ℕ} {s : List ℕ} {n i : ℕ} → Folding c s n i → i ≤ length s → Fits n (length (take (length s - i) (drop i s)))
-folding-fits {c} {s} {n} {i} g h =
-    let e : length (take (length s - i) (drop i s)) ≡ length s - i = simp (length-take, length-drop) (omega arith) in
-    rw e (⊎-elim (λ l. fits-small n (length s - i) l) (λ l. fits-five n (length s - i) (g .five) l) (g .wait))
-
-pub folding-done : {c : ℕ} {s : List ℕ} {n i x : ℕ} → Folding c s n i → x ≡ bytesFrom n (take (length s - i) (drop i s)) → x ≡ bytesFrom c s
-folding-done g e = walked-rest (g .walked) e
+pub alone-fits : {n : ℕ} (c m : ℕ) → n ≡ c → c < 2 ^ 32 → Fits n m
+unfolding Fits
+alone-fits c m e h = rw e (inl h)
 
 -- what waits never has more words than are left
-pub record Settling (c : ℕ) (s : List ℕ) (n i : ℕ) : Type 0 where
+pub record Waits (c : ℕ) (s : List ℕ) (n i : ℕ) : Type 0 where
   pub walked : Walked c s n i
   pub fits : Fits n (length s - i)
 
-pub settling-start : (c : ℕ) (s : List ℕ) → Fits c (length s) → Settling c s c 0
-settling-start c s h = record { walked = walked-start c s; fits = rw sub-zero h }
+pub waits-start : (c : ℕ) (s : List ℕ) → Fits c (length s) → Waits c s c 0
+waits-start c s h = record { walked = walked-start c s; fits = rw sub-zero h }
 
-pub settling-turn : {c : ℕ} {s : List ℕ} {n i w m : ℕ} → Settling c s n i → 8 ≤ length s - i → w < 2 ^ 64 → w ≡ word (next s i)
-    → m ≡ octets 8 (bitXor n w) → Settling c s m (i + 8)
-settling-turn {c} {s} {n} {i} {w} {m} g h l e p =
-    let q : length s - i - 8 ≡ length s - (i + 8) = omega arith in
-    record {
-      walked = word-turn (g .walked) h e (ap (λ (x : ℕ). bytesFrom x (drop (i + 8) s)) p);
-      fits = rw (p, ← q) (fits-settled n (length s - i) w (g .fits) h l);
-    }
+module _ {c : ℕ} {s : List ℕ} {n i w m : ℕ} (g : Waits c s n i) where
+  folded-turn : {t : Taps} {k : ℕ} → Multiple t k → 64 + k ≤ 64 * ((length s - i - 8) / 8) → w < 2 ^ 64 → w ≡ word (next s i)
+      → m ≡ folded t (bitXor n w) → Waits c s m (i + 8)
+  folded-turn {t} {k} d h l e p =
+      let q : length s - i - 8 ≡ length s - (i + 8) = omega arith in
+      record {
+        walked =
+            word-turn (g .walked) (omega arith) e
+            (ap (λ (x : ℕ). bytesFrom x (drop (i + 8) s)) p
+            ∙ fold-same d (bitXor n w) (drop (i + 8) s) (omega (arith, length-drop (i + 8) s)));
+        fits = rw (p, ← q) (fits-folded d n (length s - i) w (g .fits) l h);
+      }
 
-settling-end : {c : ℕ} {s : List ℕ} (f : Waiting) {i : ℕ} → Settling c s (register f) i → length s - i < 8 → f .a < 2 ^ 64 → register f ≡ f .a
-settling-end {c} {s} f {i} g h l = lowest f l (fits-end (register f) (length s - i) (g .fits) h)
+  pub far-turn : 48 ≤ length s - i → w < 2 ^ 64 → w ≡ word (next s i) → m ≡ folded far (bitXor n w) → Waits c s m (i + 8)
+  far-turn h = folded-turn far-multiple (omega arith)
 
-pub settling-small : {c : ℕ} {s : List ℕ} (f : Waiting) {i : ℕ} → Settling c s (register f) i → length s - i < 8 → f .a < 2 ^ 64 → f .a < 2 ^ 32
-settling-small {c} {s} f {i} g h l = omega (arith, fits-end (register f) (length s - i) (g .fits) h, settling-end f g h l)
+  pub near-turn : 24 ≤ length s - i → w < 2 ^ 64 → w ≡ word (next s i) → m ≡ folded near (bitXor n w) → Waits c s m (i + 8)
+  near-turn h = folded-turn near-multiple (omega arith)
 
-pub settling-done : {c : ℕ} {s : List ℕ} (f : Waiting) {i x : ℕ} → Settling c s (register f) i → length s - i < 8 → f .a < 2 ^ 64
-    → x ≡ bytesFrom (f .a) (take (length s - i) (drop i s)) → x ≡ bytesFrom c s
-settling-done {c} {s} f {i} {x} g h l e =
-    walked-rest (g .walked) (e ∙ ap (λ (r : ℕ). bytesFrom r (take (length s - i) (drop i s))) (sym (settling-end f g h l)))
+  pub settled-turn : 8 ≤ length s - i → w < 2 ^ 64 → w ≡ word (next s i) → m ≡ octets 8 (bitXor n w) → Waits c s m (i + 8)
+  settled-turn h l e p =
+      let q : length s - i - 8 ≡ length s - (i + 8) = omega arith in
+      record {
+        walked = word-turn (g .walked) h e (ap (λ (x : ℕ). bytesFrom x (drop (i + 8) s)) p);
+        fits = rw (p, ← q) (fits-settled n (length s - i) w (g .fits) h l);
+      }
+
+-- the rest is left to another
+pub waits-fits : {c : ℕ} {s : List ℕ} {n i : ℕ} → Waits c s n i → i ≤ length s → Fits n (length (take (length s - i) (drop i s)))
+waits-fits {c} {s} {n} {i} g h =
+    let e : length (take (length s - i) (drop i s)) ≡ length s - i = simp (length-take, length-drop) (omega arith) in
+    rw e (g .fits)
+
+pub waits-rest : {c : ℕ} {s : List ℕ} {n i x : ℕ} → Waits c s n i → x ≡ bytesFrom n (take (length s - i) (drop i s)) → x ≡ bytesFrom c s
+waits-rest g e = walked-rest (g .walked) e
+
+-- less than a word is left, so the register is back in the lowest word
+module _ {c : ℕ} {s : List ℕ} (f : Waiting) {i : ℕ} (g : Waits c s (register f) i) (h : length s - i < 8) (l : f .a < 2 ^ 64) where
+  back : register f ≡ f .a
+  back = lowest f l (fits-end (register f) (length s - i) (g .fits) h)
+
+  pub waits-small : f .a < 2 ^ 32
+  waits-small = omega (arith, fits-end (register f) (length s - i) (g .fits) h, back)
+
+  pub waits-done : {x : ℕ} → x ≡ bytesFrom (f .a) (take (length s - i) (drop i s)) → x ≡ bytesFrom c s
+  waits-done e = walked-rest (g .walked) (e ∙ ap (λ (r : ℕ). bytesFrom r (take (length s - i) (drop i s))) (sym back))

@@ -11,13 +11,29 @@ over x y = bitXor x (y * 2 ^ 64)
 unfoldable pub register : Waiting → ℕ
 register f = over (f .a) (over (f .b) (over (f .c) (over (f .d) (f .e))))
 
--- a word, 145, 183, 211 and 300 digits further on, as seen from the next word: 64 + 17, 64 + 55, 128 + 19 and 192 + 44
-unfoldable pub spread : ℕ → ℕ
-spread x = over 0 (over (bitXor (x * 2 ^ 17) (x * 2 ^ 55)) (over (x * 2 ^ 19) (x * 2 ^ 44)))
+-- places to add a word at, counted from the next word's lowest digit
+pub data Taps : Type 0 where
+  tap : ℕ → Taps
+  both : Taps → Taps → Taps
 
--- n without its lowest word, which is spread over the words above
-unfoldable pub folded : ℕ → ℕ
-folded n = bitXor (n / 2 ^ 64) (spread (n % 2 ^ 64))
+unfoldable pub spread : Taps → ℕ → ℕ
+spread (tap j) x = x * 2 ^ j
+spread (both s t) x = bitXor (spread s x) (spread t x)
+
+-- 145, 183, 211 and 300 digits further on
+unfoldable pub far : Taps
+far = both (both (tap 81) (tap 119)) (both (tap 147) (tap 236))
+
+-- 80, 87, 105, 111, 112, 119 and 120 digits further on, and 64: in the next two words
+abbrev pub seven : Taps
+seven = both (both (both (tap 56) (tap 55)) (both (tap 48) (tap 47))) (both (both (tap 41) (tap 23)) (tap 16))
+
+unfoldable pub near : Taps
+near = both (tap 0) seven
+
+-- n without its lowest word, which is added at the taps
+unfoldable pub folded : Taps → ℕ → ℕ
+folded t n = bitXor (n / 2 ^ 64) (spread t (n % 2 ^ 64))
 
 -- n is a register of 32 digits, or has no more words than m bytes
 unfoldable pub Fits : ℕ → ℕ → Type 0

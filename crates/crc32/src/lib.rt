@@ -6,7 +6,7 @@ ghost use lib.ListN.{length, take};
 ghost use Rattle.crc32.specs.Crc.{bytesFrom, finished, crc32Of};
 ghost use Rattle.crc32.specs.Octets.{octets, word, times};
 ghost use Rattle.crc32.specs.Rows.{Rows, halves, fourBy};
-ghost use Rattle.crc32.specs.Waits.{register, folded, Fits};
+ghost use Rattle.crc32.specs.Waits.{register, far, near, folded, Fits};
 
 pub mod tables;
 
@@ -121,7 +121,7 @@ fn bytes(t: &[u32], c: u32, s: &[u8]) -> u32
     r
 }
 
-// ---- by words of eight bytes: each is folded into words behind it by shifts alone, and only the last five go through the table
+// ---- by words of eight bytes: each is folded into words behind it by shifts alone, and only the last two go through the table
 
 // What waits to be added to the next five words, the next in `a`.
 struct Waiting {
@@ -130,6 +130,18 @@ struct Waiting {
     c: u64,
     d: u64,
     e: u64,
+}
+
+fn alone(a: u64) -> Waiting
+    ensures { λ r. ⌜ register r ≡ a ⌝ }
+{
+    Waiting {
+        a,
+        b: 0,
+        c: 0,
+        d: 0,
+        e: 0,
+    }
 }
 
 // Up to eight bytes, the first lowest.
@@ -156,8 +168,8 @@ fn first_four(s: &[u8]) -> u32
 
 // The polynomial divides x^300 + x^155 + x^117 + x^89 + 1, so the next word, `w` with what waited for it, may as well be
 // added 145, 183, 211 and 300 bits further on: to the second to the fifth word behind it.
-fn fold(f: Waiting, w: u64) -> Waiting
-    ensures { λ r. ⌜ register r ≡ folded (bitXor (register f) w) ⌝ }
+fn fold_far(f: Waiting, w: u64) -> Waiting
+    ensures { λ r. ⌜ register r ≡ folded far (bitXor (register f) w) ⌝ }
 {
     let x = f.a ^ w;
     Waiting {
@@ -166,6 +178,24 @@ fn fold(f: Waiting, w: u64) -> Waiting
         c: f.d ^ (((x >> 47) ^ (x >> 9)) ^ (x << 19)),
         d: f.e ^ ((x >> 45) ^ (x << 44)),
         e: x >> 20,
+    }
+}
+
+// It also divides x^120 + x^56 + x^40 + x^33 + x^15 + x^9 + x^8 + x + 1: more shifts, to the next two words only.
+fn fold_near(f: Waiting, w: u64) -> Waiting
+    ensures { λ r. ⌜ register r ≡ folded near (bitXor (register f) w) ⌝ }
+{
+    let x = f.a ^ w;
+    let low = (((x << 56) ^ (x << 55)) ^ ((x << 48) ^ (x << 47)))
+        ^ (((x << 41) ^ (x << 23)) ^ (x << 16));
+    let high = (((x >> 8) ^ (x >> 9)) ^ ((x >> 16) ^ (x >> 17)))
+        ^ (((x >> 23) ^ (x >> 41)) ^ (x >> 48));
+    Waiting {
+        a: (f.b ^ x) ^ low,
+        b: f.c ^ high,
+        c: f.d,
+        d: f.e,
+        e: 0,
     }
 }
 
@@ -187,25 +217,42 @@ fn settle(t: &[u32], f: Waiting, w: u64) -> Waiting
     }
 }
 
-// Folds a word a turn, as long as five are left behind it.
+// The register waits for the first word.
 fn words(t: &[u32], c: u32, s: &[u8]) -> u32
     requires { ⌜ Rows (now t) × (128 ≤ length (now t)) ⌝ }
     ensures { λ r. ⌜ r ≡ bytesFrom c (now (s .entry)) ⌝ }
 {
-    let mut f = Waiting {
-        a: c as u64,
-        b: 0,
-        c: 0,
-        d: 0,
-        e: 0,
-    };
+    far_words(t, alone(c as u64), s)
+}
+
+// Folds a word a turn, as long as five are left behind it.
+fn far_words(t: &[u32], f: Waiting, s: &[u8]) -> u32
+    requires { ⌜ Rows (now t) × (128 ≤ length (now t)) × Fits (register f) (length (now s)) ⌝ }
+    ensures { λ r. ⌜ r ≡ bytesFrom (register f) (now (s .entry)) ⌝ }
+{
+    let mut g = f;
     let mut i = 0;
     while 48 <= s.len() - i {
         let e = i + 8;
-        f = fold(f, word_of(&s[i..e]));
+        g = fold_far(g, word_of(&s[i..e]));
         i = e;
     }
-    last_words(t, f, &s[i..])
+    near_words(t, g, &s[i..])
+}
+
+// As long as two are left behind it.
+fn near_words(t: &[u32], f: Waiting, s: &[u8]) -> u32
+    requires { ⌜ Rows (now t) × (128 ≤ length (now t)) × Fits (register f) (length (now s)) ⌝ }
+    ensures { λ r. ⌜ r ≡ bytesFrom (register f) (now (s .entry)) ⌝ }
+{
+    let mut g = f;
+    let mut i = 0;
+    while 24 <= s.len() - i {
+        let e = i + 8;
+        g = fold_near(g, word_of(&s[i..e]));
+        i = e;
+    }
+    last_words(t, g, &s[i..])
 }
 
 // The words that are left, and what is less than a word.

@@ -3,31 +3,31 @@ use Prim.Native.Nat.{_-_}
 use lib.ListN.{length}
 use Rattle.crc32.specs.Waits.{register}
 use Rattle.crc32.proofs.Walk.{next-length}
-use Rattle.crc32.proofs.Waits.{Settling, settling-start, settling-turn, settling-small, settling-done}
+use Rattle.crc32.proofs.Waits.{Waits, waits-start, settled-turn, waits-small, waits-done}
 use borrow.Author.Needs.{needs}
 use Rattle.crc32.proofs.last_words.Statement.{statement}
 use Rattle.crc32.proofs.last_words.Tie as tie
 
 abbrev Inv-loop : tie.InvT-loop
-Inv-loop t s g₀ i₀ g i = Settling (register g₀) s (register g) i
+Inv-loop t s g₀ i₀ g i = Waits (register g₀) s (register g) i
 
 abbrev μ-loop : tie.MeasureT-loop
 μ-loop t s g₀ i₀ g i = length s - i
 
 loop-holds : tie.Need-loop-holds Inv-loop μ-loop
-loop-holds c = search (settling-start)
+loop-holds c = search (waits-start)
 
 word-of-requires : tie.Need-word-of-requires Inv-loop μ-loop
 word-of-requires c κs = search (next-length)
 
 loop-again : tie.Need-loop-again Inv-loop μ-loop
-loop-again c = search (settling-turn)
+loop-again c = search (settled-turn)
 
 cast-tail : tie.Need-cast-tail Inv-loop μ-loop
-cast-tail c = record { fits = settling-small _ (c .before .before .loop .inv) (search needs) (search needs) }
+cast-tail c = record { fits = waits-small _ (c .before .before .loop .inv) (search needs) (search needs) }
 
 returns : tie.Need-returns Inv-loop μ-loop
-returns c = search (settling-done)
+returns c = search (waits-done)
 
 pub last-words-spec : {M : Type 1} → statement M
 last-words-spec =
