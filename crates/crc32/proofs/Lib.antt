@@ -1,6 +1,7 @@
 pub mod Walk
 pub mod Multiple
 pub mod Waits
+mod Front
 mod Determined
 mod Multiplied
 mod Halves

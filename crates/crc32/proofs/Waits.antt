@@ -6,7 +6,7 @@ use Prim.Native.Nat.{ℕ, zero, suc, _+_, _-_, _*_, _/_, _%_, _^_, _≤_, _<_}
 use native.Mathlib.Nat.{add-zero, sub-zero, mod-lt, mul-assoc}
 use native.Mathlib.Omega.{arith}
 use lib.ListN.{length, drop, take, length-take, length-drop}
-use lib.Pow.{pow-pos, shl-lt, shl-shr, shr-shr, shr-lt, split, high, low}
+use lib.Pow.{pow-pos, shl-shr, shr-shr, shr-lt, split, high, low}
 use lib.Bits.{bitXor, xor-zero-r, xor-comm, xor-lt, xor-shifted, xor-block}
 use Rattle.base.specs.Xor.{xor-assoc, xor-swap}
 use Rattle.crc32.specs.Crc.{bitSteps, bytesFrom}
@@ -14,9 +14,9 @@ use Rattle.crc32.specs.Octets.{octets, word}
 use Rattle.crc32.specs.CrcLaws.{bitSteps-add, bitSteps-over, bitSteps-split, bitSteps-down, wider}
 use Rattle.crc32.specs.Rows.{Rows, fourBy}
 use Rattle.crc32.specs.RowsLaws.{four-by}
-use Rattle.crc32.specs.Waits.{over, register, Taps, tap, both, spread, far, seven, near, folded, Fits}
+use Rattle.crc32.specs.Waits.{over, register, Taps, tap, both, spread, far, seven, near, folded, Fits, Waits}
 use Rattle.crc32.specs.declared.Waiting.{Waiting}
-use Rattle.crc32.proofs.Walk.{Walked, walked-start, walked-rest, word-turn, next}
+use Rattle.crc32.proofs.Walk.{walked-start, walked-rest, word-turn, next}
 use Rattle.crc32.proofs.Multiple.{Multiple, beyond, far-multiple, near-multiple, spread-lt, fold-same}
 
 -- ---- words above each other
@@ -203,6 +203,10 @@ settle-is t a b c d e w u v g l h k p small q =
 
 -- ---- how large it is
 
+pub fits-small : (n m : ℕ) → n < 2 ^ 32 → Fits n m
+unfolding Fits
+fits-small n m h = inl h
+
 fits-end : (n m : ℕ) → Fits n m → m < 8 → n < 2 ^ 32
 unfolding Fits
 fits-end n m (inl h) l = h
@@ -232,7 +236,7 @@ joined-lt n m w f l g =
 fits-settled : (n m w : ℕ) → Fits n m → 8 ≤ m → w < 2 ^ 64 → Fits (octets 8 (bitXor n w)) (m - 8)
 fits-settled n m w f l g = settled-lt ((m - 8) / 8) (m - 8) (bitXor n w) refl (joined-lt n m w f l g)
 
-fits-folded : {t : Taps} {k : ℕ} → Multiple t k → (n m w : ℕ) → Fits n m → w < 2 ^ 64 → 64 + k ≤ 64 * ((m - 8) / 8)
+pub fits-folded : {t : Taps} {k : ℕ} → Multiple t k → (n m w : ℕ) → Fits n m → w < 2 ^ 64 → 64 + k ≤ 64 * ((m - 8) / 8)
     → Fits (folded t (bitXor n w)) (m - 8)
 unfolding Fits folded
 fits-folded {t} {k} d n m w f g l =
@@ -254,15 +258,6 @@ lowest f h l = omega (arith, over-is (f .a) (over (f .b) (over (f .c) (over (f .
 pub alone-is : (a : ℕ) → register (record { a = a; b = 0; c = 0; d = 0; e = 0 }) ≡ a
 unfolding register over
 alone-is a = xor-zero-r a
-
-pub alone-fits : {n : ℕ} (c m : ℕ) → n ≡ c → c < 2 ^ 32 → Fits n m
-unfolding Fits
-alone-fits c m e h = rw e (inl h)
-
--- what waits never has more words than are left
-pub record Waits (c : ℕ) (s : List ℕ) (n i : ℕ) : Type 0 where
-  pub walked : Walked c s n i
-  pub fits : Fits n (length s - i)
 
 pub waits-start : (c : ℕ) (s : List ℕ) → Fits c (length s) → Waits c s c 0
 waits-start c s h = record { walked = walked-start c s; fits = rw sub-zero h }

@@ -7,19 +7,14 @@ use native.Mathlib.Nat.{div-eq-of-lt, le-of-eq}
 use native.Mathlib.Omega.{arith}
 use lib.ListN.{length, getD, take, drop, drop-of-length-le, length-take, length-drop, take-append-drop}
 use lib.Seq.{drop-cons, drop-drop, take-all}
-use lib.Bits.{bitXor, xor-zero-r, xor-lt, xor-shr}
+use lib.Bits.{bitXor, xor-zero-r, xor-shr}
 use Rattle.base.specs.Bytes.{bytes, take-bytes, drop-bytes}
-use Rattle.crc32.specs.Crc.{bitSteps, byteStep, bytesFrom}
+use Rattle.crc32.specs.Crc.{byteStep, bytesFrom}
 use Rattle.crc32.specs.Octets.{octets, word}
 use Rattle.crc32.specs.CrcLaws.{bitSteps-split, bytesFrom-append, at-once, word-lt}
-use Rattle.crc32.specs.Rows.{Rows, fourBy}
-use Rattle.crc32.specs.RowsLaws.{four-by}
+use Rattle.crc32.specs.Waits.{Walked}
 
 -- ---- the register over a slice
-
-pub record Walked (c : ℕ) (s : List ℕ) (r i : ℕ) : Type 0 where
-  pub some : i ≤ length s
-  pub left : bytesFrom r (drop i s) ≡ bytesFrom c s
 
 pub walked-start : (c : ℕ) (s : List ℕ) → Walked c s c 0
 walked-start c s = record { some = omega arith; left = refl }
@@ -57,7 +52,7 @@ walked-rest {c} {s} {r} {i} {x} w e = e ∙ ap (bytesFrom r) (whole-rest s i) �
 
 -- ---- several bytes at once
 
-part : (n : ℕ) (s : List ℕ) (i r : ℕ) → n ≤ length s - i
+pub part : (n : ℕ) (s : List ℕ) (i r : ℕ) → n ≤ length s - i
     → bytesFrom (octets n (bitXor r (word (take n (drop i s))))) (drop (i + n) s) ≡ bytesFrom r (drop i s)
 part n s i r h =
     let e : length (take n (drop i s)) ≡ n = simp (length-take, length-drop) (omega arith) in
@@ -88,13 +83,6 @@ word-turn {c} {s} {r} {i} {n} {w} g h e p =
 
 pub four-lt : (s : List ℕ) (w : ℕ) → ((i : ℕ) → getD s i 0 < 256) → w ≡ word (take 4 s) → w < 2 ^ 32
 four-lt s w b e = rw e (word-lt 4 (take 4 s) (take-bytes 4 s (bytes s b)) (simp length-take (omega arith)))
-
-pub four-done : (t s : List ℕ) (c : ℕ) {w r x : ℕ} → Rows t → 128 ≤ length t → c < 2 ^ 32 → w < 2 ^ 32 → 4 ≤ length s → w ≡ word (take 4 s)
-    → r ≡ fourBy t (bitXor c w)
-    → x ≡ bytesFrom r (take (length s - 4) (drop 4 s)) → x ≡ bytesFrom c s
-four-done t s c {w} {r} {x} g l i k h e p q =
-    q ∙ ap₂ bytesFrom (p ∙ four-by t (bitXor c w) g l (xor-lt 32 c w i k) ∙ ap (λ (y : ℕ). octets 4 (bitXor c y)) e) (whole-rest s 4)
-    ∙ part 4 s 0 c (omega arith)
 
 -- ---- bytes read as a word, from the last
 

@@ -1,7 +1,11 @@
 -- What waits to be added to the next five words of eight bytes, as one number: a register of 320 digits.
-use Prim.Native.Nat.{ℕ, _*_, _/_, _%_, _^_, _<_}
+use Prim.Native.Nat.{ℕ, _-_, _*_, _/_, _%_, _^_, _≤_, _<_}
+use mathlib.Core.Path.{_≡_}
 use mathlib.Core.Logic.{_⊎_}
+use mathlib.Core.List.{List}
+use lib.ListN.{length, drop}
 use lib.Bits.{bitXor}
+use Rattle.crc32.specs.Crc.{bytesFrom}
 use Rattle.crc32.specs.declared.Waiting.{Waiting}
 
 -- the word x, and y in the words above it
@@ -38,3 +42,13 @@ folded t n = bitXor (n / 2 ^ 64) (spread t (n % 2 ^ 64))
 -- n is a register of 32 digits, or has no more words than m bytes
 unfoldable pub Fits : ℕ → ℕ → Type 0
 Fits n m = (n < 2 ^ 32) ⊎ (n < 2 ^ (64 * (m / 8)))
+
+-- the bytes from place i on, from the register r, give what all of them gave from c
+pub record Walked (c : ℕ) (s : List ℕ) (r i : ℕ) : Type 0 where
+  pub some : i ≤ length s
+  pub left : bytesFrom r (drop i s) ≡ bytesFrom c s
+
+-- and what waits never has more words than are left
+pub record Waits (c : ℕ) (s : List ℕ) (n i : ℕ) : Type 0 where
+  pub walked : Walked c s n i
+  pub fits : Fits n (length s - i)

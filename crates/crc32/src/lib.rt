@@ -1,12 +1,12 @@
 // CRC-32/ISO-HDLC: the register carried over bytes, so that a sum can be taken in parts, and the whole sum.
 ghost use mathlib.Core.Path.{_≡_};
-ghost use Prim.Native.Nat.{suc, _+_, _*_, _/_, _^_, _≤_, _<_, _%_};
+ghost use Prim.Native.Nat.{_+_, _*_, _/_, _^_, _≤_, _<_, _%_};
 ghost use lib.Bits.{bitXor};
 ghost use lib.ListN.{length, take};
 ghost use Rattle.crc32.specs.Crc.{bytesFrom, finished, crc32Of};
 ghost use Rattle.crc32.specs.Octets.{octets, word, times};
 ghost use Rattle.crc32.specs.Rows.{Rows, halves, fourBy};
-ghost use Rattle.crc32.specs.Waits.{register, far, near, folded, Fits};
+ghost use Rattle.crc32.specs.Waits.{register, far, near, folded, Fits, Waits};
 
 pub mod tables;
 
@@ -132,6 +132,7 @@ struct Waiting {
     e: u64,
 }
 
+// For the next word only.
 fn alone(a: u64) -> Waiting
     ensures { λ r. ⌜ register r ≡ a ⌝ }
 {
@@ -217,12 +218,29 @@ fn settle(t: &[u32], f: Waiting, w: u64) -> Waiting
     }
 }
 
-// The register waits for the first word.
+// Four bytes go first where the size is four to seven above whole words, so that less than four are left in the end.
 fn words(t: &[u32], c: u32, s: &[u8]) -> u32
     requires { ⌜ Rows (now t) × (128 ≤ length (now t)) ⌝ }
     ensures { λ r. ⌜ r ≡ bytesFrom c (now (s .entry)) ⌝ }
 {
-    far_words(t, alone(c as u64), s)
+    let i = s.len() / 4 % 2 * 4;
+    far_words(t, begun(t, c, s, i), &s[i..])
+}
+
+// What waits for the first whole word. The register with four bytes is the upper half of a word, which is folded where five
+// words follow.
+fn begun(t: &[u32], c: u32, s: &[u8], i: usize) -> Waiting
+    requires { ⌜ Rows (now t) × (128 ≤ length (now t)) × (i ≡ length (now s) / 4 % 2 * 4) ⌝ }
+    ensures { λ r. ⌜ Waits c (now (s .entry)) (register r) i ⌝ }
+{
+    if i < 4 {
+        return alone(c as u64);
+    }
+    let x = c ^ first_four(s);
+    if s.len() < 44 {
+        return alone(four(t, x) as u64);
+    }
+    fold_far(alone(0), (x as u64) << 32)
 }
 
 // Folds a word a turn, as long as five are left behind it.
@@ -240,7 +258,7 @@ fn far_words(t: &[u32], f: Waiting, s: &[u8]) -> u32
     near_words(t, g, &s[i..])
 }
 
-// As long as two are left behind it.
+// Near the end, as long as two are left behind it.
 fn near_words(t: &[u32], f: Waiting, s: &[u8]) -> u32
     requires { ⌜ Rows (now t) × (128 ≤ length (now t)) × Fits (register f) (length (now s)) ⌝ }
     ensures { λ r. ⌜ r ≡ bytesFrom (register f) (now (s .entry)) ⌝ }
@@ -267,16 +285,5 @@ fn last_words(t: &[u32], f: Waiting, s: &[u8]) -> u32
         g = settle(t, g, word_of(&s[i..e]));
         i = e;
     }
-    tail(t, g.a as u32, &s[i..])
-}
-
-// Less than a word: four bytes at once, where there are so many.
-fn tail(t: &[u32], c: u32, s: &[u8]) -> u32
-    requires { ⌜ Rows (now t) × (128 ≤ length (now t)) ⌝ }
-    ensures { λ r. ⌜ r ≡ bytesFrom c (now (s .entry)) ⌝ }
-{
-    if s.len() < 4 {
-        return bytes(t, c, s);
-    }
-    bytes(t, four(t, c ^ first_four(s)), &s[4..])
+    bytes(t, g.a as u32, &s[i..])
 }

@@ -1,5 +1,4 @@
 use Rattle.crc32.proofs.Waits.{alone-is}
-use borrow.Author.Needs.{needs}
 use Rattle.crc32.proofs.alone.Statement.{statement}
 use Rattle.crc32.proofs.alone.Tie as tie
 

@@ -2,7 +2,8 @@
 use Prim.Native.Nat.{_-_}
 use native.Mathlib.Omega.{arith}
 use lib.ListN.{length}
-use Rattle.crc32.proofs.Walk.{Walked, walked-start, byte-turn, walked-done}
+use Rattle.crc32.specs.Waits.{Walked}
+use Rattle.crc32.proofs.Walk.{walked-start, byte-turn, walked-done}
 use Rattle.crc32.proofs.Halves.{looked}
 use borrow.Author.Needs.{needs}
 use Rattle.crc32.proofs.bytes.Statement.{statement}

@@ -1,9 +1,9 @@
 -- The last words, and then the last bytes.
 use Prim.Native.Nat.{_-_}
 use lib.ListN.{length}
-use Rattle.crc32.specs.Waits.{register}
+use Rattle.crc32.specs.Waits.{register, Waits}
 use Rattle.crc32.proofs.Walk.{next-length}
-use Rattle.crc32.proofs.Waits.{Waits, waits-start, settled-turn, waits-small, waits-done}
+use Rattle.crc32.proofs.Waits.{waits-start, settled-turn, waits-small, waits-done}
 use borrow.Author.Needs.{needs}
 use Rattle.crc32.proofs.last_words.Statement.{statement}
 use Rattle.crc32.proofs.last_words.Tie as tie
@@ -23,8 +23,8 @@ word-of-requires c κs = search (next-length)
 loop-again : tie.Need-loop-again Inv-loop μ-loop
 loop-again c = search (settled-turn)
 
-cast-tail : tie.Need-cast-tail Inv-loop μ-loop
-cast-tail c = record { fits = waits-small _ (c .before .before .loop .inv) (search needs) (search needs) }
+cast-bytes : tie.Need-cast-bytes Inv-loop μ-loop
+cast-bytes c = record { fits = waits-small _ (c .before .before .loop .inv) (search needs) (search needs) }
 
 returns : tie.Need-returns Inv-loop μ-loop
 returns c = search (waits-done)
@@ -45,7 +45,7 @@ last-words-spec =
     (λ c κs. search needs)
     (λ c. search needs)
     loop-again
-    cast-tail
+    cast-bytes
     (λ c. search needs)
     (λ c. search needs)
     (λ c. search needs)

@@ -1,9 +1,9 @@
 -- As many words as can be folded, and then the last.
 use Prim.Native.Nat.{_-_}
 use lib.ListN.{length}
-use Rattle.crc32.specs.Waits.{register}
+use Rattle.crc32.specs.Waits.{register, Waits}
 use Rattle.crc32.proofs.Walk.{next-length}
-use Rattle.crc32.proofs.Waits.{Waits, waits-start, near-turn, waits-fits, waits-rest}
+use Rattle.crc32.proofs.Waits.{waits-start, near-turn, waits-fits, waits-rest}
 use borrow.Author.Needs.{needs}
 use Rattle.crc32.proofs.near_words.Statement.{statement}
 use Rattle.crc32.proofs.near_words.Tie as tie
