@@ -1,4 +1,5 @@
 // Names for a person: attributes, error codes, the numbers of the sheet, classes and methods.
+ghost use Prim.Native.Nat.{_<_, _≤_};
 ghost use mathlib.Core.Path.{_≡_};
 ghost use Rattle.names.specs.Names.{named, attributeName, codeName, numberName, className, methodName};
 use wire::method::Method;
@@ -56,8 +57,9 @@ pub fn code(n: u16) -> Name
     }
 }
 
-// What a number of docs/NUMBERS.md is called there.
-pub fn number(n: u8) -> Name
+// The numbers of docs/NUMBERS.md, by its groups: all is well and refused, broken, refused to write, signature.
+fn refused(n: u8) -> Name
+    requires { ⌜ n < 10 ⌝ }
     ensures { λ r. ⌜ r ≡ numberName n ⌝ }
 {
     match n {
@@ -66,6 +68,15 @@ pub fn number(n: u8) -> Name
         2 => of(b"first bits not zero"),
         3 => of(b"no cookie"),
         4 => of(b"size and length disagree"),
+        _ => of(b""),
+    }
+}
+
+fn broken(n: u8) -> Name
+    requires { ⌜ (10 ≤ n) × (n < 20) ⌝ }
+    ensures { λ r. ⌜ r ≡ numberName n ⌝ }
+{
+    match n {
         10 => of(b"attribute cut off"),
         11 => of(b"wrong size"),
         12 => of(b"no such address"),
@@ -73,8 +84,15 @@ pub fn number(n: u8) -> Name
         14 => of(b"text not UTF-8"),
         15 => of(b"fingerprint differs"),
         16 => of(b"fingerprint too far back"),
-        31 => of(b"not signed"),
-        32 => of(b"signature differs"),
+        _ => of(b""),
+    }
+}
+
+fn writing(n: u8) -> Name
+    requires { ⌜ (20 ≤ n) × (n < 30) ⌝ }
+    ensures { λ r. ⌜ r ≡ numberName n ⌝ }
+{
+    match n {
         21 => of(b"no message to add to"),
         22 => of(b"no such method"),
         23 => of(b"value not allowed"),
@@ -83,6 +101,33 @@ pub fn number(n: u8) -> Name
         26 => of(b"buffer too small"),
         _ => of(b""),
     }
+}
+
+fn signature(n: u8) -> Name
+    requires { ⌜ 30 ≤ n ⌝ }
+    ensures { λ r. ⌜ r ≡ numberName n ⌝ }
+{
+    match n {
+        31 => of(b"not signed"),
+        32 => of(b"signature differs"),
+        _ => of(b""),
+    }
+}
+
+// What a number of docs/NUMBERS.md is called there.
+pub fn number(n: u8) -> Name
+    ensures { λ r. ⌜ r ≡ numberName n ⌝ }
+{
+    if n < 10 {
+        return refused(n);
+    }
+    if n < 20 {
+        return broken(n);
+    }
+    if n < 30 {
+        return writing(n);
+    }
+    signature(n)
 }
 
 pub fn class(c: MessageClass) -> Name
