@@ -6,3 +6,4 @@ pub mod Laid
 pub mod Filling
 pub mod Same
 pub mod Determined
+pub mod Through

@@ -1,3 +1,2 @@
 pub mod Hmac
 pub mod HmacLaws
-pub mod Examples

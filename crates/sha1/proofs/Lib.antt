@@ -1,3 +1,4 @@
+mod Steps
 pub mod Words
 pub mod Twenties
 pub mod Padded

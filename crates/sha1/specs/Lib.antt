@@ -1,3 +1,2 @@
 pub mod Sha1
 pub mod Sha1Laws
-pub mod Examples

@@ -1,11 +1,10 @@
+use Rattle.sha1.proofs.Steps.{digested}
 use borrow.Author.Needs.{needs}
-use Rattle.sha1.specs.Sha1.{finished}
 use Rattle.sha1.proofs.finish.Statement.{statement}
 use Rattle.sha1.proofs.finish.Tie as tie
 
 returns : tie.Need-returns
-unfolding finished
-returns c = cc
+returns c = search (digested)
 
 pub finish-spec : {M : Type 1} → statement M
 finish-spec = tie.close (tie.spec (λ c. search needs) (λ c. search needs) (λ c κs. search needs) (λ c κs. search needs) returns)

@@ -1,9 +1,10 @@
+use Rattle.sha1.proofs.Steps.{rounded}
 use borrow.Author.Needs.{needs}
 use Rattle.sha1.proofs.round.Statement.{statement}
 use Rattle.sha1.proofs.round.Tie as tie
 
 returns : tie.Need-returns
-returns c = cc
+returns c = search (rounded)
 
 pub round-spec : {M : Type 1} → statement M
 round-spec =

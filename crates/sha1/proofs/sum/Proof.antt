@@ -1,9 +1,10 @@
+use Rattle.sha1.proofs.Steps.{summed}
 use borrow.Author.Needs.{needs}
 use Rattle.sha1.proofs.sum.Statement.{statement}
 use Rattle.sha1.proofs.sum.Tie as tie
 
 returns : tie.Need-returns
-returns c = cc
+returns c = search (summed)
 
 pub sum-spec : {M : Type 1} → statement M
 sum-spec =
