@@ -1,12 +1,11 @@
 -- What the calls return, case by case.
-use Prim.Native.Nat.{ℕ, zero, suc, _≤_, _<_}
+use Prim.Native.Nat.{ℕ, _≤_, _<_}
 use mathlib.Core.List.{List}
-use mathlib.Core.Path.{_≡_, refl, sym, ap, _∙_}
+use mathlib.Core.Path.{_≡_, sym, ap, _∙_}
 use borrow.Author.Tests.{lt-ltb, le-ltb, eq-eqb, ne-eqb}
 use lib.ListN.{replicate}
-use Rattle.wire.specs.TypeNumber.{classNumber, classNumbered, typeNumber, typeFrom}
+use Rattle.wire.specs.TypeNumber.{classNumber, classNumbered, typeNumber}
 use Rattle.wire.specs.declared.types.MessageClass.{MessageClass}
-use Rattle.wire.specs.declared.types.MessageClass.the-variants.{Request, Indication, SuccessResponse, ErrorResponse}
 use Rattle.wire.specs.declared.types.MessageType.{MessageType}
 use Rattle.wire.specs.declared.types.TypeNumber.{TypeNumber}
 use Rattle.wire.specs.declared.types.TypeNumber.the-variants as number
@@ -21,26 +20,6 @@ use Rattle.c_wire.specs.declared.Id.{Id}
 use Rattle.c_wire.specs.declared.Address.{Address}
 use Rattle.c_wire.specs.declared.Numbered.{Numbered}
 use Rattle.c_wire.specs.declared.Formed.{Formed}
-
--- the arms of the match on a class's number
-pub arm-0 : {n : ℕ} → n ≡ 0 → Request ≡ classNumbered n
-unfolding classNumbered
-arm-0 e = rw e
-
-pub arm-1 : {n : ℕ} → n ≡ 1 → Indication ≡ classNumbered n
-unfolding classNumbered
-arm-1 e = rw e
-
-pub arm-2 : {n : ℕ} → n ≡ 2 → SuccessResponse ≡ classNumbered n
-unfolding classNumbered
-arm-2 e = rw e
-
-pub arm-rest : (n : ℕ) → (n ≡ 0 → ⊥) → (n ≡ 1 → ⊥) → (n ≡ 2 → ⊥) → ErrorResponse ≡ classNumbered n
-unfolding classNumbered
-arm-rest zero a b e = absurd (a refl)
-arm-rest (suc zero) a b e = absurd (b refl)
-arm-rest (suc (suc zero)) a b e = absurd (e refl)
-arm-rest (suc (suc (suc n))) a b e = refl
 
 -- a type number
 pub no-class : (c m : ℕ) → 3 < c → record { number = 22; value = 0 } ≡ numbered c m

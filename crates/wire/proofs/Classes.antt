@@ -1,12 +1,11 @@
 -- The class of a number, and the numbers that are refused.
-use Prim.Native.Nat.{ℕ, zero, suc, _+_, _*_, _/_, _%_, _<_}
-use mathlib.Core.Path.{_≡_, refl}
+use Prim.Native.Nat.{ℕ, _+_, _*_, _/_, _%_, _<_}
+use mathlib.Core.Path.{_≡_}
 use native.Mathlib.Omega.{arith}
 use borrow.Author.Tests.{lt-ltb}
 use Rattle.wire.specs.TypeNumber.{typeOf, classOf, methodOf, classNumber, classNumbered, typeNumber, typeFrom}
 use Rattle.wire.specs.TypeLaws.{class-small}
 use Rattle.wire.specs.declared.types.MessageClass.{MessageClass}
-use Rattle.wire.specs.declared.types.MessageClass.the-variants.{Request, Indication, SuccessResponse, ErrorResponse}
 use Rattle.wire.specs.declared.types.MessageType.{MessageType}
 use Rattle.wire.specs.declared.types.TypeNumber.the-variants.{Number}
 use Rattle.wire.specs.declared.types.FromNumber.the-variants.{Known}
@@ -24,23 +23,3 @@ pub known : {k : MessageClass} (n : ℕ) → n < 16384 → k ≡ classNumbered (
     → Known (record { class = k; method = record { code = n / 512 * 128 + n / 32 % 8 * 16 + n % 16 } }) ≡ typeFrom n
 unfolding typeFrom classOf methodOf
 known n h e = rw (lt-ltb n 16384 h, e)
-
--- the arms of the match on a class's number
-pub arm-0 : {n : ℕ} → n ≡ 0 → Request ≡ classNumbered n
-unfolding classNumbered
-arm-0 e = rw e
-
-pub arm-1 : {n : ℕ} → n ≡ 1 → Indication ≡ classNumbered n
-unfolding classNumbered
-arm-1 e = rw e
-
-pub arm-2 : {n : ℕ} → n ≡ 2 → SuccessResponse ≡ classNumbered n
-unfolding classNumbered
-arm-2 e = rw e
-
-pub arm-rest : (n : ℕ) → (n ≡ 0 → ⊥) → (n ≡ 1 → ⊥) → (n ≡ 2 → ⊥) → ErrorResponse ≡ classNumbered n
-unfolding classNumbered
-arm-rest zero a b e = absurd (a refl)
-arm-rest (suc zero) a b e = absurd (b refl)
-arm-rest (suc (suc zero)) a b e = absurd (e refl)
-arm-rest (suc (suc (suc n))) a b e = refl

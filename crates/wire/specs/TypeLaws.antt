@@ -145,6 +145,26 @@ class-small Indication = omega arith
 class-small SuccessResponse = omega arith
 class-small ErrorResponse = omega arith
 
+-- the arms of the match on a class's number
+pub arm-0 : {n : ℕ} → n ≡ 0 → Request ≡ classNumbered n
+unfolding classNumbered
+arm-0 e = rw e
+
+pub arm-1 : {n : ℕ} → n ≡ 1 → Indication ≡ classNumbered n
+unfolding classNumbered
+arm-1 e = rw e
+
+pub arm-2 : {n : ℕ} → n ≡ 2 → SuccessResponse ≡ classNumbered n
+unfolding classNumbered
+arm-2 e = rw e
+
+pub arm-rest : (n : ℕ) → (n ≡ 0 → ⊥) → (n ≡ 1 → ⊥) → (n ≡ 2 → ⊥) → ErrorResponse ≡ classNumbered n
+unfolding classNumbered
+arm-rest zero a b e = absurd (a refl)
+arm-rest (suc zero) a b e = absurd (b refl)
+arm-rest (suc (suc zero)) a b e = absurd (e refl)
+arm-rest (suc (suc (suc n))) a b e = refl
+
 -- a class and a method, made a type number, are read from it
 pub type-back : (t : MessageType) → t .method .code < 4096 → typeFrom (typeOf (classNumber (t .class)) (t .method .code)) ≡ Known t
 unfolding typeFrom

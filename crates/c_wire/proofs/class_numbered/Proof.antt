@@ -1,4 +1,4 @@
-use Rattle.c_wire.proofs.Sayings.{arm-0, arm-1, arm-2, arm-rest}
+use Rattle.wire.specs.TypeLaws.{arm-0, arm-1, arm-2, arm-rest}
 use Rattle.c_wire.proofs.class_numbered.Statement.{statement}
 use Rattle.c_wire.proofs.class_numbered.Tie as tie
 
