@@ -1,14 +1,20 @@
--- What has no name, and the names of classes.
+-- A name at the front of its bytes, what has no name, and the names of classes.
 use Prim.Native.Nat.{ℕ, _<_, _≤_}
-use mathlib.Core.List.{[]}
+use mathlib.Core.List.{List, []}
 use mathlib.Core.Path.{_≡_}
 use native.Mathlib.Omega.{arith}
 use borrow.Author.Tests.{eq-eqb, ne-eqb}
+use lib.ListN.{length, replicate}
+use Rattle.numbers.specs.Numbers.{put}
 use Rattle.wire.specs.declared.types.MessageClass.{MessageClass}
 use Rattle.wire.specs.declared.types.MessageClass.the-variants.{Request, Indication, SuccessResponse, ErrorResponse}
 use Rattle.names.specs.Ascii.{ascii}
 use Rattle.names.specs.Names.{className, named, attributeName, codeName, numberName, methodName}
 use Rattle.names.specs.declared.Name.{Name}
+
+pub at-front : (s : List ℕ) {b : List ℕ} → b ≡ put (replicate {A = ℕ} 32 0) 0 s → record { text = b; size = length s } ≡ named s
+unfolding named
+at-front s e = rw e
 
 module _ {n : ℕ} {r : Name} (e : r ≡ named []) where
   pub no-attribute : (n ≡ 1 → ⊥) → (n ≡ 6 → ⊥) → (n ≡ 8 → ⊥) → (n ≡ 9 → ⊥) → (n ≡ 10 → ⊥) → (n ≡ 20 → ⊥) → (n ≡ 21 → ⊥) → (n ≡ 32 → ⊥) → (n ≡ 32802 → ⊥) → (n ≡ 32803 → ⊥) → (n ≡ 32808 → ⊥) → r ≡ attributeName n

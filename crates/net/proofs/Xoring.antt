@@ -9,10 +9,12 @@ use lib.Seq.{take-all}
 use lib.Bits.{bitXor}
 use borrow.Rule.Slice.PartMut.{midOf, postOf, putMid}
 use Rattle.wire.specs.Cookie.{cookie}
-use Rattle.net.specs.Net.{ipSize, xored}
+use Rattle.wire.specs.declared.transaction_id.TransactionId.{TransactionId}
+use Rattle.net.specs.Net.{ipSize, xored, addrXor}
 use Rattle.net.specs.NetLaws.{length-xored, xored-nil, xored-behind, xored-append}
 use Rattle.net.specs.declared.Family.{Family}
 use Rattle.net.specs.declared.Family.the-variants.{Ipv4, Ipv6}
+use Rattle.net.specs.declared.SocketAddr.{SocketAddr}
 
 -- one byte more is xored
 next : (s k : List ℕ) (i : ℕ) → i < length k
@@ -54,3 +56,8 @@ ip-16 s k {f} {m} {n} a b e p q =
     let both : n ++ postOf 4 12 m ≡ xored (drop 4 m) k = ap₂ {C = List ℕ} (λ u v. u ++ v) (q ∙ ap (λ (x : List ℕ). xored x k) mid) post ∙ append-nil (xored (drop 4 m) k) in
     let all : take 16 (cookie ++ k) ≡ cookie ++ k = take-all 16 (cookie ++ k) (omega arith) in
     rw (e, all) (ap (λ (x : List ℕ). take 4 m ++ x) both ∙ rw p (xored-append s cookie k))
+
+pub form : (a : SocketAddr) (id : TransactionId) {i : List ℕ} → i ≡ xored (a .ip) (take (ipSize (a .family)) (cookie ++ id .bytes))
+    → record { family = a .family; port = bitXor (a .port) 0x2112; ip = i } ≡ addrXor a id
+unfolding addrXor
+form a id e = rw e

@@ -7,9 +7,10 @@ use borrow.Author.Tests.{eq-eqb, ne-eqb}
 use lib.ListN.{length, getD, take, drop, replicate, length-drop, drop-of-length-le, List·getD-eq-default}
 use lib.Seq.{take-all}
 use Rattle.base.specs.Laid.{laid}
-use Rattle.numbers.specs.Numbers.{fitsAt, put}
+use Rattle.numbers.specs.Numbers.{be16, fitsAt, put}
 use Rattle.wire.specs.declared.transaction_id.TransactionId.{TransactionId}
 use Rattle.net.specs.Net.{addrXor}
+use Rattle.net.specs.declared.Family.{Family}
 use Rattle.net.specs.declared.Family.the-variants.{Ipv4, Ipv6}
 use Rattle.net.specs.declared.SocketAddr.{SocketAddr}
 use Rattle.rfc5389.specs.Rows.{rfc5389}
@@ -28,6 +29,11 @@ family-1 n e = simp (eq-eqb n 1 e)
 
 pub family-2 : (n : ℕ) → (n ≡ 1 → ⊥) → Ipv6 ≡ familyNumbered n
 family-2 n e = simp (ne-eqb n 1 e)
+
+pub fields : (v : List ℕ) {b p : ℕ} {f : Family} {i : List ℕ} → b ≡ getD v 1 0 → f ≡ familyNumbered b → p ≡ be16 v 2 → i ≡ ipOf v
+    → record { family = f; port = p; ip = i } ≡ addressOf v
+unfolding addressOf
+fields v e g h k = cc
 
 pub no-ip : (v : List ℕ) → length v < 4 → replicate 16 0 ≡ ipOf v
 unfolding ipOf put fitsAt laid

@@ -1,11 +1,10 @@
-use Rattle.typed.specs.Typed.{addressOf}
+use Rattle.typed.proofs.Fields.{fields}
 use borrow.Author.Needs.{needs}
 use Rattle.typed.proofs.address.Statement.{statement}
 use Rattle.typed.proofs.address.Tie as tie
 
 returns : tie.Need-returns
-unfolding addressOf
-returns c = cc
+returns c = search (fields)
 
 pub address-spec : {M : Type 1} → statement M
 address-spec =
