@@ -21,6 +21,14 @@ module _ (k : ℕ) (v : List ℕ) {x : ℕ} (e : x ≡ fault rfc5389 k v) where
   unfolding refusal
   refused z = simp (ne-eqb (fault rfc5389 k v) 0 (λ y. z (e ∙ y)))
 
+-- an answer and a buffer under the number of a kind and what is wrong with a value of it
+module _ (d v : List ℕ) {j k f : ℕ} (n : j ≡ k) (e : f ≡ refusal rfc5389 j v) where
+  pub answers : {w : Written} → w ≡ answer d f (typed j v) → w ≡ answer d (refusal rfc5389 k v) (typed k v)
+  answers g = g ∙ ap (λ (x : ℕ). answer d x (typed j v)) e ∙ ap (λ (y : ℕ). answer d (refusal rfc5389 y v) (typed y v)) n
+
+  pub leaves : {b : List ℕ} → b ≡ appended d f (typed j v) → b ≡ appended d (refusal rfc5389 k v) (typed k v)
+  leaves g = g ∙ ap (λ (x : ℕ). appended d x (typed j v)) e ∙ ap (λ (y : ℕ). appended d (refusal rfc5389 y v) (typed y v)) n
+
 -- the first m of three zeros
 abbrev three : List ℕ
 three = 0 ∷ 0 ∷ 0 ∷ []

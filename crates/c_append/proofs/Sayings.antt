@@ -58,6 +58,14 @@ module _ (k : ℕ) (v : List ℕ) {q : Rule} (e : q ≡ ruleOf k) where
   unfolding textBy
   plain f = by-rule Plain f
 
+-- an answer and a buffer under a text's fault
+module _ (d : List ℕ) (k : ℕ) (v : List ℕ) {f : ℕ} (e : f ≡ textFault k v) where
+  pub text-tells : {w : begin.Written} {r : Written} → w ≡ answer d f (typed k v) → r ≡ told w → r ≡ told (answer d (textFault k v) (typed k v))
+  text-tells g h = h ∙ ap told (g ∙ ap (λ (n : ℕ). answer d n (typed k v)) e)
+
+  pub text-keeps : {b : List ℕ} → b ≡ appended d f (typed k v) → b ≡ appended d (textFault k v) (typed k v)
+  text-keeps g = g ∙ ap (λ (n : ℕ). appended d n (typed k v)) e
+
 -- an answer and a buffer under a fault and an attribute that are those of x
 module _ (d : List ℕ) (x : ℕ × Attr) {f : ℕ} {a : Attr} (e : x ≡ (f, a)) where
   pub answers : {w : begin.Written} → w ≡ answer d f a → w ≡ answer d (x .0) (x .1)

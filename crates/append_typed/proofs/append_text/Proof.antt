@@ -1,9 +1,10 @@
+use Rattle.append_typed.proofs.Values.{answers, leaves}
 use borrow.Author.Needs.{needs}
 use Rattle.append_typed.proofs.append_text.Statement.{statement}
 use Rattle.append_typed.proofs.append_text.Tie as tie
 
 returns : tie.Need-returns
-returns c = (cc, cc)
+returns c = (search (answers), search (leaves))
 
 pub append-text-spec : {M : Type 1} → statement M
 append-text-spec =

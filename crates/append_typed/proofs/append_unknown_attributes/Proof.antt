@@ -1,9 +1,10 @@
+use Rattle.append_typed.proofs.Values.{answers, leaves}
 use borrow.Author.Needs.{needs}
 use Rattle.append_typed.proofs.append_unknown_attributes.Statement.{statement}
 use Rattle.append_typed.proofs.append_unknown_attributes.Tie as tie
 
 returns : tie.Need-returns
-returns c = (cc, cc)
+returns c = (search (answers), search (leaves))
 
 pub append-unknown-attributes-spec : {M : Type 1} → statement M
 append-unknown-attributes-spec =

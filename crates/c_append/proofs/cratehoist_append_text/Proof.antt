@@ -1,9 +1,10 @@
+use Rattle.c_append.proofs.Sayings.{text-tells, text-keeps}
 use borrow.Author.Needs.{needs}
 use Rattle.c_append.proofs.cratehoist_append_text.Statement.{statement}
 use Rattle.c_append.proofs.cratehoist_append_text.Tie as tie
 
 returns : tie.Need-returns
-returns c = (cc, cc)
+returns c = (search (text-tells), search (text-keeps))
 
 pub cratehoist-append-text-spec : {M : Type 1} → statement M
 cratehoist-append-text-spec = tie.close (tie.spec (λ c κs. search needs) (λ c κs. search needs) (λ c κs. search needs) (λ c. search needs) returns)

@@ -1,9 +1,11 @@
+use Rattle.base.specs.Through.{through}
+use Rattle.c_read.specs.Said.{stepped}
 use borrow.Author.Needs.{needs}
 use Rattle.c_read.proofs.cratehoist_step_at.Statement.{statement}
 use Rattle.c_read.proofs.cratehoist_step_at.Tie as tie
 
 returns : tie.Need-returns
-returns c = cc
+returns c = search (through stepped)
 
 pub cratehoist-step-at-spec : {M : Type 1} → statement M
 cratehoist-step-at-spec = tie.close (tie.spec (λ c κs. search needs) (λ c κs. search needs) returns)
