@@ -9,8 +9,8 @@ use lib.Bits.{bitXor, xor-zero-l, xor-lt}
 use Rattle.crc32.specs.Crc.{bitSteps, bytesFrom}
 use Rattle.crc32.specs.Octets.{octets, word}
 use Rattle.crc32.specs.CrcLaws.{bitSteps-add, bitSteps-shift, octets-lt}
-use Rattle.crc32.specs.Rows.{Rows, fourBy}
-use Rattle.crc32.specs.RowsLaws.{four-by}
+use Rattle.crc32.specs.Rows.{Rows, byHalves}
+use Rattle.crc32.specs.RowsLaws.{by-halves}
 use Rattle.crc32.specs.Waits.{far, folded, Fits, Waits}
 use Rattle.crc32.proofs.Walk.{part}
 use Rattle.crc32.proofs.Multiple.{far-multiple, fold-same}
@@ -42,10 +42,10 @@ module _ {c : ℕ} {s : List ℕ} {n i : ℕ} (odd : i ≡ length s / 4 % 2 * 4)
       })
 
   pub begun-four : (t : List ℕ) {w v : ℕ} → Rows t → 128 ≤ length t → c < 2 ^ 32 → w < 2 ^ 32 → 4 ≤ i → w ≡ word (take 4 s)
-      → v ≡ fourBy t (bitXor c w) → n ≡ v → Waits c s n i
+      → v ≡ byHalves t (bitXor c w) → n ≡ v → Waits c s n i
   begun-four t {w} r k h g l e p q =
       let b : bitXor c w < 2 ^ 32 = xor-lt 32 c w h g in
-      let v : n ≡ octets 4 (bitXor c w) = q ∙ p ∙ four-by t (bitXor c w) r k b in
+      let v : n ≡ octets 4 (bitXor c w) = q ∙ p ∙ by-halves t (bitXor c w) r k b in
       begun-after l e (ap (λ (x : ℕ). bytesFrom x (drop 4 s)) v) (fits-small n (length s - 4) (rw v (octets-lt 4 (bitXor c w) b)))
 
   pub begun-half : {w m : ℕ} → c < 2 ^ 32 → w < 2 ^ 32 → 4 ≤ i → w ≡ word (take 4 s) → 44 ≤ length s → m ≡ 0

@@ -12,8 +12,8 @@ use Rattle.base.specs.Xor.{xor-assoc, xor-swap}
 use Rattle.crc32.specs.Crc.{bitSteps, bytesFrom}
 use Rattle.crc32.specs.Octets.{octets, word}
 use Rattle.crc32.specs.CrcLaws.{bitSteps-add, bitSteps-over, bitSteps-split, bitSteps-down, wider}
-use Rattle.crc32.specs.Rows.{Rows, fourBy}
-use Rattle.crc32.specs.RowsLaws.{four-by}
+use Rattle.crc32.specs.Rows.{Rows, byHalves}
+use Rattle.crc32.specs.RowsLaws.{by-halves}
 use Rattle.crc32.specs.Waits.{over, register, Taps, tap, both, spread, far, seven, near, folded, Fits, Waits}
 use Rattle.crc32.specs.declared.Waiting.{Waiting}
 use Rattle.crc32.proofs.Walk.{walked-start, walked-rest, word-turn, next}
@@ -181,7 +181,7 @@ unfolding octets over
 octets-over x y = bitSteps-over 64 x y
 
 pub settle-is : (t : List ℕ) (a b c d e w u v : ℕ) → Rows t → 128 ≤ length t → a < 2 ^ 64 → w < 2 ^ 64
-    → u ≡ fourBy t (bitXor a w % 2 ^ 32) → u < 2 ^ 32 → v ≡ fourBy t (bitXor u (bitXor a w / 2 ^ 32))
+    → u ≡ byHalves t (bitXor a w % 2 ^ 32) → u < 2 ^ 32 → v ≡ byHalves t (bitXor u (bitXor a w / 2 ^ 32))
     → over (bitXor b v) (over c (over d (over e 0))) ≡ octets 8 (bitXor (over a (over b (over c (over d e)))) w)
 settle-is t a b c d e w u v g l h k p small q =
     ap₂ (λ (i j : ℕ). over i (over c (over d j))) (xor-comm b v) (over-zero e) ∙ sym (xor-over v b (over c (over d e)))
@@ -194,11 +194,11 @@ settle-is t a b c d e w u v g l h k p small q =
     x = bitXor a w
 
     first : u ≡ octets 4 (x % 2 ^ 32)
-    first = p ∙ four-by t (x % 2 ^ 32) g l (mod-lt x (pow-pos 32))
+    first = p ∙ by-halves t (x % 2 ^ 32) g l (mod-lt x (pow-pos 32))
 
     whole : v ≡ octets 4 (bitXor (octets 4 (x % 2 ^ 32)) (x / 2 ^ 32))
     whole =
-        q ∙ four-by t (bitXor u (x / 2 ^ 32)) g l (xor-lt 32 u (x / 2 ^ 32) small (shr-lt 32 32 (xor-lt 64 a w h k)))
+        q ∙ by-halves t (bitXor u (x / 2 ^ 32)) g l (xor-lt 32 u (x / 2 ^ 32) small (shr-lt 32 32 (xor-lt 64 a w h k)))
         ∙ ap (λ (i : ℕ). octets 4 (bitXor i (x / 2 ^ 32))) first
 
 -- ---- how large it is

@@ -6,3 +6,4 @@ pub mod BurstLaws
 pub mod Rows
 pub mod RowsLaws
 pub mod Waits
+pub mod Taken

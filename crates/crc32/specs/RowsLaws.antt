@@ -1,20 +1,21 @@
 -- A table's rule, proved at all of its entries by one test that antt computes; and a byte by its two halves.
 use mathlib.Core.Path.{_≡_, refl, sym, ap, ap₂, subst, _∙_}
 use mathlib.Core.Bool.{Bool, true, false}
-use mathlib.Core.List.{List, [], _∷_}
+use mathlib.Core.List.{List, [], _∷_, _++_}
 use Prim.Native.Nat.{ℕ, zero, suc, _+_, _*_, _/_, _%_, _^_, _≤_, _<_}
 use native.Mathlib.Nat.{add-zero, zero-add, add-suc, suc-add, le-of-suc-le-suc, not-suc-le-zero}
 use native.Mathlib.Omega.{arith}
-use borrow.Author.Tests.{le-ltb}
+use borrow.Author.Tests.{lt-ltb, le-ltb, eqb-true, eqb-false}
 use lib.Dec.{T, eqb, eqb→eq}
-use lib.ListN.{length, getD}
+use lib.ListN.{length, getD, length-append, List·getD-append}
+use lib.Seq.{getD-append-seam}
 use lib.Bits.{bitXor, xor-zero-r}
 use Rattle.base.specs.Choice.{pick}
 use Rattle.base.specs.Xor.{xor-assoc}
 use Rattle.crc32.specs.Crc.{bitSteps}
 use Rattle.crc32.specs.Octets.{octets}
-use Rattle.crc32.specs.CrcLaws.{bitSteps-xor, bitSteps-add, bitSteps-split, octets-suc, octets-xor}
-use Rattle.crc32.specs.Rows.{Rows, halves, fourBy}
+use Rattle.crc32.specs.CrcLaws.{bitSteps-zero, bitSteps-xor, bitSteps-add, bitSteps-split, octets-suc, octets-xor}
+use Rattle.crc32.specs.Rows.{Rows, halves, byHalves, byteRows, byBytes, fourBy, eightBy, Steps}
 
 both-left : (a b : Bool) → T (pick a b false) → T a
 both-left true b t = tt
@@ -92,20 +93,110 @@ peel j y =
     octets-suc j y ∙ ap (octets j) (bitSteps-split 8 y) ∙ octets-xor j (bitSteps 8 (y % 256)) (y / 256)
     ∙ ap (λ (z : ℕ). bitXor z (octets j (y / 256))) (sym (octets-suc j (y % 256)))
 
--- a register of 32 digits by eight rows
-pub four-by : (t : List ℕ) (x : ℕ) → Rows t → 128 ≤ length t → x < 2 ^ 32 → fourBy t x ≡ octets 4 x
-unfolding fourBy octets bitSteps
-four-by t x h l k =
-    simp (le-ltb (length t) 128 l)
-    (ap₂ bitXor (ap₂ bitXor (look-is t 3 x h (omega arith)) (look-is t 2 (x / 256) h (omega arith)))
-    (ap₂ bitXor (look-is t 1 (x / 65536) h (omega arith)) (look-is t 0 (x / 16777216) h (omega arith)))
-    ∙ xor-assoc (octets 4 (x % 256)) (octets 3 (x / 256 % 256)) (bitXor (octets 2 (x / 65536 % 256)) (octets 1 (x / 16777216 % 256)))
-    ∙ sym (down 3 x (x / 256) refl
-    ∙ ap (bitXor (octets 4 (x % 256)))
-    (down 2 (x / 256) (x / 65536) (omega arith)
-    ∙ ap (bitXor (octets 3 (x / 256 % 256)))
-    (down 1 (x / 65536) (x / 16777216) (omega arith)
-    ∙ ap (bitXor (octets 2 (x / 65536 % 256))) (down 0 (x / 16777216) 0 (omega arith) ∙ xor-zero-r (octets 1 (x / 16777216 % 256)))))))
+octets-nought : (n : ℕ) → octets n 0 ≡ 0
+unfolding octets
+octets-nought n = bitSteps-zero (8 * n)
+
+-- a register of 32 digits, byte by byte, with the steps of r bytes more
+four-bytes : (r x : ℕ) → x < 2 ^ 32
+    → bitXor (bitXor (octets (suc (suc (suc (suc r)))) (x % 256)) (octets (suc (suc (suc r))) (x / 256 % 256)))
+    (bitXor (octets (suc (suc r)) (x / 65536 % 256)) (octets (suc r) (x / 16777216 % 256)))
+    ≡ octets (suc (suc (suc (suc r)))) x
+four-bytes r x k =
+    xor-assoc (octets r₄ (x % 256)) (octets r₃ (x / 256 % 256)) (bitXor (octets r₂ (x / 65536 % 256)) (octets (suc r) (x / 16777216 % 256)))
+    ∙ sym (down r₃ x (x / 256) refl
+    ∙ ap (bitXor (octets r₄ (x % 256)))
+    (down r₂ (x / 256) (x / 65536) (omega arith)
+    ∙ ap (bitXor (octets r₃ (x / 256 % 256)))
+    (down (suc r) (x / 65536) (x / 16777216) (omega arith)
+    ∙ ap (bitXor (octets r₂ (x / 65536 % 256)))
+    (down r (x / 16777216) 0 (omega arith) ∙ ap (bitXor (octets (suc r) (x / 16777216 % 256))) (octets-nought r)
+    ∙ xor-zero-r (octets (suc r) (x / 16777216 % 256))))))
   where
+    r₂ : ℕ
+    r₂ = suc (suc r)
+
+    r₃ : ℕ
+    r₃ = suc r₂
+
+    r₄ : ℕ
+    r₄ = suc r₃
+
     down : (j y z : ℕ) → y / 256 ≡ z → octets (suc j) y ≡ bitXor (octets (suc j) (y % 256)) (octets j z)
     down j y z e = peel j y ∙ ap (λ (w : ℕ). bitXor (octets (suc j) (y % 256)) (octets j w)) e
+
+-- by eight rows of halves
+pub by-halves : (t : List ℕ) (x : ℕ) → Rows t → 128 ≤ length t → x < 2 ^ 32 → byHalves t x ≡ octets 4 x
+unfolding byHalves
+by-halves t x h l k =
+    ap₂ bitXor (ap₂ bitXor (look-is t 3 x h (omega arith)) (look-is t 2 (x / 256) h (omega arith)))
+    (ap₂ bitXor (look-is t 1 (x / 65536) h (omega arith)) (look-is t 0 (x / 16777216) h (omega arith)))
+    ∙ four-bytes 0 x k
+
+-- ---- rows of bytes
+
+length-byteRows : (n : ℕ) → length (byteRows n) ≡ n
+unfolding byteRows
+length-byteRows zero = refl
+length-byteRows (suc n) = length-append (byteRows n) (_ ∷ []) ∙ omega (arith, length-byteRows n)
+
+-- one entry more
+snoc : (l : List ℕ) (n x k : ℕ) → length l ≡ n → (f : ℕ → ℕ) → ((i : ℕ) → i < n → getD l i 0 ≡ f i) → x ≡ f n → k < suc n → getD (l ++ (x ∷ [])) k 0 ≡ f k
+snoc l n x k e f g d h = go (eqb k n) refl
+  where
+    go : (b : Bool) → eqb k n ≡ b → getD (l ++ (x ∷ [])) k 0 ≡ f k
+    go true q =
+        let z : k ≡ n = eqb-true k n q in
+        ap (λ (i : ℕ). getD (l ++ (x ∷ [])) i 0) (z ∙ sym e) ∙ getD-append-seam l x [] 0 ∙ d ∙ ap f (sym z)
+    go false q =
+        let z : k ≡ n → ⊥ = eqb-false k n q in
+        let m : k < n = omega arith in
+        List·getD-append l (x ∷ []) 0 k (omega arith) ∙ g k m
+
+pub byte-entry : (n k : ℕ) → k < n → getD (byteRows n) k 0 ≡ octets (k / 256 + 1) (k % 256)
+unfolding byteRows
+byte-entry zero k h = absurd (not-suc-le-zero h)
+byte-entry (suc n) k h = snoc (byteRows n) n _ k (length-byteRows n) (λ i. octets (i / 256 + 1) (i % 256)) (byte-entry n) refl h
+
+-- by four rows of bytes, in a list whose first n entries are right
+pub front-bytes : (t : List ℕ) (n r x : ℕ) → ((k : ℕ) → k < n → getD t k 0 ≡ octets (k / 256 + 1) (k % 256)) → r * 256 + 1024 ≤ n → x < 2 ^ 32
+    → byBytes t r x ≡ octets (suc (suc (suc (suc r)))) x
+unfolding byBytes
+front-bytes t n r x g h k =
+    ap₂ bitXor
+    (ap₂ bitXor (at (r * 256 + 768 + x % 256) (r + 3) (x % 256) (omega arith) (omega arith) (omega arith) (omega arith))
+    (at (r * 256 + 512 + x / 256 % 256) (r + 2) (x / 256 % 256) (omega arith) (omega arith) (omega arith) (omega arith)))
+    (ap₂ bitXor (at (r * 256 + 256 + x / 65536 % 256) (r + 1) (x / 65536 % 256) (omega arith) (omega arith) (omega arith) (omega arith))
+    (at (r * 256 + x / 16777216 % 256) r (x / 16777216 % 256) (omega arith) (omega arith) (omega arith) refl))
+    ∙ four-bytes r x k
+  where
+    at : (i j b : ℕ) {m : ℕ} → i ≡ j * 256 + b → b < 256 → i < n → suc j ≡ m → getD t i 0 ≡ octets m b
+    at i j b e l f q =
+        let u : i / 256 + 1 ≡ suc j = omega arith in
+        let v : i % 256 ≡ b = omega arith in
+        g i f ∙ ap₂ octets (u ∙ q) v
+
+-- ---- tables that are lent
+
+module _ (t : List ℕ) where
+  pub rows-steps : Rows t → length t < 2048 → Steps t
+  unfolding fourBy
+  rows-steps h l =
+      record {
+        four = λ x k m. simp (le-ltb (length t) 128 m, lt-ltb (length t) 2048 l) (by-halves t x h m k);
+        eight = λ x k m. absurd (omega arith);
+      }
+
+  pub byte-steps : t ≡ byteRows 2048 → Steps t
+  unfolding fourBy eightBy
+  byte-steps e =
+      record {
+        four = λ x k m. simp (le-ltb (length t) 128 m, le-ltb (length t) 2048 (omega (arith, size))) (at 0 x k (omega arith));
+        eight = λ x k m. simp (le-ltb (length t) 2048 m) (at 4 x k (omega arith));
+      }
+    where
+      size : length t ≡ 2048
+      size = ap length e ∙ length-byteRows 2048
+
+      at : (r x : ℕ) → x < 2 ^ 32 → r ≤ 4 → byBytes t r x ≡ octets (suc (suc (suc (suc r)))) x
+      at r x k h = ap (λ (s : List ℕ). byBytes s r x) e ∙ front-bytes (byteRows 2048) 2048 r x (byte-entry 2048) (omega arith) k

@@ -3,9 +3,10 @@ ghost use mathlib.Core.Path.{_≡_};
 ghost use Prim.Native.Nat.{_+_, _*_, _/_, _^_, _≤_, _<_, _%_};
 ghost use lib.Bits.{bitXor};
 ghost use lib.ListN.{length, take};
-ghost use Rattle.crc32.specs.Crc.{bytesFrom, finished, crc32Of};
+ghost use Rattle.crc32.specs.Crc.{bitStep, bytesFrom, finished, crc32Of};
 ghost use Rattle.crc32.specs.Octets.{octets, word, times};
-ghost use Rattle.crc32.specs.Rows.{Rows, halves, fourBy};
+ghost use Rattle.crc32.specs.Taken.{Taken};
+ghost use Rattle.crc32.specs.Rows.{Rows, halves, byHalves, byteRows, byBytes, fourBy, eightBy};
 ghost use Rattle.crc32.specs.Waits.{register, far, near, folded, Fits, Waits};
 
 pub mod tables;
@@ -53,25 +54,67 @@ fn added(a: u32, t: u32, m: u32) -> u32
     a ^ m
 }
 
-// A product of registers: where `m` is what so many bytes that are nought make of 0x8000_0000, what they make of `t`. It ends
-// with the lowest digit of `t` that is set.
+fn bit_step(m: u32) -> u32
+    ensures { λ r. ⌜ r ≡ bitStep m ⌝ }
+{
+    (m % 2 * 0xEDB88320) ^ (m / 2)
+}
+
+// A product on its way: what was added so far, and the digits that are left.
+struct Factors {
+    sum: u32,
+    t: u32,
+    m: u32,
+}
+
+fn digit(s: Factors) -> Factors
+    ensures { λ r. ⌜ Taken 1 s r ⌝ }
+{
+    Factors {
+        sum: added(s.sum, s.t, s.m),
+        t: s.t % 0x8000_0000 * 2,
+        m: bit_step(s.m),
+    }
+}
+
+fn two_digits(s: Factors) -> Factors
+    ensures { λ r. ⌜ Taken 2 s r ⌝ }
+{
+    digit(digit(s))
+}
+
+fn five_digits(s: Factors) -> Factors
+    ensures { λ r. ⌜ Taken 5 s r ⌝ }
+{
+    two_digits(two_digits(digit(s)))
+}
+
+// The digits that are left, from the highest, as long as one is set.
+fn digits(k: u32, s: Factors) -> u32
+    ensures { λ r. ⌜ r ≡ bitXor (s .sum) (times k (s .t) (s .m)) ⌝ }
+{
+    let mut s = s;
+    let mut k = k;
+    while 0 < k {
+        if s.t == 0 {
+            return s.sum;
+        }
+        s = digit(s);
+        k -= 1;
+    }
+    s.sum
+}
+
+// A product of registers: where `m` is what so many bytes that are nought make of 0x8000_0000, what they make of `t`.
 pub fn product(t: u32, m: u32) -> u32
     ensures { λ r. ⌜ r ≡ times 32 t m ⌝ }
 {
-    let mut a: u32 = 0;
-    let mut t = t;
-    let mut m = m;
-    let mut k: u32 = 32;
-    while 0 < k {
-        if t == 0 {
-            return a;
-        }
-        a = added(a, t, m);
-        t = t % 0x8000_0000 * 2;
-        m = (m % 2 * 0xEDB88320) ^ (m / 2);
-        k -= 1;
+    // Two lengths that are multiples of eight most often differ in the fifth digit alone, or in these five, which are taken without
+    // a branch.
+    if t == 0x0800_0000 {
+        return bit_step(bit_step(bit_step(bit_step(m))));
     }
-    a
+    digits(27, five_digits(Factors { sum: 0, t, m }))
 }
 
 // ---- by half bytes
@@ -89,21 +132,80 @@ fn look(t: &[u32], k: usize, x: u32) -> u32
 // The steps of four bytes. The look-ups do not wait for each other.
 fn four(t: &[u32], x: u32) -> u32
     requires { ⌜ 128 ≤ length (now t) ⌝ }
-    ensures { λ r. ⌜ r ≡ fourBy (now (t .entry)) x ⌝ }
+    ensures { λ r. ⌜ r ≡ byHalves (now (t .entry)) x ⌝ }
 {
     let a = look(t, 3, x) ^ look(t, 2, x / 256);
     let b = look(t, 1, x / 65536) ^ look(t, 0, x / 16777216);
     a ^ b
 }
 
-// The same by a table that the caller lends, `tables::EIGHT_ROWS`: for one who takes few steps at a time, many times.
+// By rows of bytes, from row `r` on: the steps of `r` bytes and four.
+fn wide(t: &[u32], r: usize, x: u32) -> u32
+    requires { ⌜ (r * 256 + 1024 ≤ length (now t)) × (r ≤ 4) ⌝ }
+    ensures { λ z. ⌜ z ≡ byBytes (now (t .entry)) r x ⌝ }
+{
+    let i = r * 256;
+    let a = t[i + 768 + ((x % 256) as usize)] ^ t[i + 512 + ((x / 256 % 256) as usize)];
+    let b = t[i + 256 + ((x / 65536 % 256) as usize)] ^ t[i + ((x / 16777216 % 256) as usize)];
+    a ^ b
+}
+
+// The steps of four bytes by a table that the caller lends, `tables::EIGHT_ROWS` or `byte_rows()`: for one who takes few steps at a
+// time, many times.
 pub fn four_by(t: &[u32], x: u32) -> u32
     ensures { λ r. ⌜ r ≡ fourBy (now (t .entry)) x ⌝ }
 {
     if t.len() < 128 {
         return 0;
     }
-    four(t, x)
+    if t.len() < 2048 {
+        return four(t, x);
+    }
+    wide(t, 0, x)
+}
+
+// Those of eight bytes, by `byte_rows()` alone.
+pub fn eight_by(t: &[u32], x: u32) -> u32
+    ensures { λ r. ⌜ r ≡ eightBy (now (t .entry)) x ⌝ }
+{
+    if t.len() < 2048 {
+        return 0;
+    }
+    wide(t, 4, x)
+}
+
+// Four rows of bytes by their halves.
+fn four_rows(t: &[u32]) -> [u32; 2048]
+    requires { ⌜ Rows (now t) × (128 ≤ length (now t)) ⌝ }
+    ensures { λ r. ⌜ take 1024 r ≡ byteRows 1024 ⌝ }
+{
+    let mut w = [0; 2048];
+    for i in 0..1024 {
+        w[i] = look(t, i / 256, (i % 256) as u32);
+    }
+    w
+}
+
+// Four more by those: a row goes through the steps of four bytes.
+fn four_more(w: [u32; 2048]) -> [u32; 2048]
+    requires { ⌜ take 1024 w ≡ byteRows 1024 ⌝ }
+    ensures { λ r. ⌜ r ≡ byteRows 2048 ⌝ }
+{
+    let mut w = w;
+    for i in 1024..2048 {
+        let x = w[i - 1024];
+        let y = wide(&w, 0, x);
+        w[i] = y;
+    }
+    w
+}
+
+// Eight rows of bytes. Making them takes as long as some hundred steps by half bytes.
+pub fn byte_rows() -> [u32; 2048]
+    ensures { λ r. ⌜ r ≡ byteRows 2048 ⌝ }
+{
+    let t = tables::EIGHT_ROWS;
+    four_more(four_rows(&t))
 }
 
 // A byte a turn.

@@ -6,13 +6,12 @@ use native.Mathlib.Omega.{arith}
 use borrow.Author.Tests.{le-ltb}
 use lib.ListN.{length, getD, take, drop, length-take, length-drop}
 use lib.Bits.{bitXor, xor-lt}
-use Rattle.numbers.specs.Numbers.{be32, two, four, withLength}
-use Rattle.numbers.specs.NumbersLaws.{be32-bytes}
+use Rattle.numbers.specs.Numbers.{two, withLength}
+use Rattle.numbers.specs.NumbersLaws.{four-at}
 use Rattle.crc32.specs.Crc.{bitStep, bitSteps, bytesFrom, finished}
 use Rattle.crc32.specs.Octets.{octets, word, times}
-use Rattle.crc32.specs.CrcLaws.{bytesFrom-append, octets-add, octets-lt, at-once, apart, low-byte}
-use Rattle.crc32.specs.Rows.{Rows, fourBy}
-use Rattle.crc32.specs.RowsLaws.{four-by}
+use Rattle.crc32.specs.CrcLaws.{bytesFrom-append, octets-add, octets-xor, octets-lt, at-once, apart, low-byte}
+use Rattle.crc32.specs.Rows.{Steps, fourBy, eightBy}
 use Rattle.fingerprint.specs.Fingerprint.{fingerprintAt, printed}
 use Rattle.fingerprint.specs.Register.{register, field}
 use Rattle.fingerprint.specs.RegisterLaws.{parts, register-on, register-other, print-of}
@@ -105,12 +104,14 @@ word-four a b c e h i j k =
 
 module _ (d : List ℕ) where
   -- the four bytes at a place as a number
-  pub word-is : ((i : ℕ) → getD d i 0 < 256) → (p : ℕ) {x : ℕ} → p + 4 ≤ length d → x < 2 ^ 32 → x ≡ be32 d p
-      → x / 16777216 + x / 65536 % 256 * 256 + x / 256 % 256 * 65536 + x % 256 * 16777216 ≡ word (take 4 (drop p d))
-  word-is bs p {x} l h e =
-      word-four (x / 16777216) (x / 65536 % 256) (x / 256 % 256) (x % 256) (omega arith) (omega arith) (omega arith) (omega arith)
-      ∙ ap (λ (y : ℕ). word (four y)) e
-      ∙ sym (ap word (be32-bytes d p l bs))
+  pub word-is : (p : ℕ) {a b c e : ℕ} → p + 4 ≤ length d → (a ≡ getD d p 0) × (a < 256) → (b ≡ getD d (p + 1) 0) × (b < 256)
+      → (c ≡ getD d (p + 2) 0) × (c < 256)
+      → (e ≡ getD d (p + 2 + 1) 0) × (e < 256)
+      → a + b * 256 + (c + e * 256) * 65536 ≡ word (take 4 (drop p d))
+  word-is p {a} {b} {c} {e} l h i j k =
+      let q : a + b * 256 + (c + e * 256) * 65536 ≡ a + b * 256 + c * 65536 + e * 16777216 = omega arith in
+      let s : drop p d ≡ a ∷ b ∷ c ∷ e ∷ drop (p + 4) d = rw (h .0, i .0, j .0, k .0, four-at d p l) in
+      q ∙ word-four a b c e (h .1) (i .1) (j .1) (k .1) ∙ sym (ap (λ (t : List ℕ). word (take 4 t)) s)
 
   pub record Worded (n p at sum power : ℕ) : Type 0 where
     pub sums : sum ≡ register d at n
@@ -131,40 +132,73 @@ module _ (d : List ℕ) where
     short = g .short;
   }
 
-  pub worded-turn : (t : List ℕ) {n p at sum power w x y : ℕ} → Rows t → 128 ≤ length t → p ≤ length d → Worded n p at sum power → 4 ≤ p - at
-      → w < 2 ^ 32 → w ≡ word (take 4 (drop at d)) → x ≡ fourBy t (bitXor sum w) → y ≡ fourBy t power
+  worded-next : {n p at sum power w x y : ℕ} → p ≤ length d → Worded n p at sum power → 4 ≤ p - at → w < 2 ^ 32 → w ≡ word (take 4 (drop at d))
+      → x ≡ octets 4 (bitXor sum w) → y ≡ octets 4 power
       → Worded n p (at + 4) x y
-  worded-turn t {n} {p} {at} {sum} {power} {w} {x} {y} h l k g m j e f q = record {
+  worded-next {n} {p} {at} {sum} {power} {w} {x} {y} k g m j e f q = record {
     sums =
-        stepped ∙ ap₂ octets (sym long) (ap₂ bitXor (g .sums) e)
+        f ∙ ap₂ octets (sym long) (ap₂ bitXor (g .sums) e)
         ∙ sym (at-once (register d at n) (take 4 (drop at d)))
         ∙ ap (λ (z : ℕ). bytesFrom (register d at n) (take z (drop at d))) size
         ∙ register-on d at (at + 4) n (g .low) (omega arith) (omega arith);
-    powers =
-        q ∙ ap (fourBy t) (g .powers) ∙ four-by t (octets at 0x8000_0000) h l (octets-lt at 0x8000_0000 (omega arith))
-        ∙ sym (octets-add at 4 0x8000_0000);
+    powers = q ∙ ap (octets 4) (g .powers) ∙ sym (octets-add at 4 0x8000_0000);
     low = omega (arith, g .low);
     inside = omega arith;
-    small = rw stepped (octets-lt 4 (bitXor sum w) within);
+    small = rw f (octets-lt 4 (bitXor sum w) (xor-lt 32 sum w (g .small) j));
     short = g .short;
   }
     where
-      within : bitXor sum w < 2 ^ 32
-      within = xor-lt 32 sum w (g .small) j
-
-      stepped : x ≡ octets 4 (bitXor sum w)
-      stepped = f ∙ four-by t (bitXor sum w) h l within
-
       size : 4 ≡ at + 4 - at
       size = omega arith
 
       long : length (take 4 (drop at d)) ≡ 4
       long = simp (length-take, length-drop) (omega arith)
 
+  pub worded-turn : (t : List ℕ) {n p at sum power w x y : ℕ} → Steps t → 128 ≤ length t → p ≤ length d → Worded n p at sum power → 4 ≤ p - at
+      → w < 2 ^ 32 → w ≡ word (take 4 (drop at d)) → x ≡ fourBy t (bitXor sum w) → y ≡ fourBy t power
+      → Worded n p (at + 4) x y
+  worded-turn t {n} {p} {at} {sum} {power} {w} {x} {y} h l k g m j e f q =
+      worded-next k g m j e (f ∙ h .four (bitXor sum w) (xor-lt 32 sum w (g .small) j) l)
+      (q ∙ ap (fourBy t) (g .powers) ∙ h .four (octets at 0x8000_0000) (octets-lt at 0x8000_0000 (omega arith)) l ∙ ap (octets 4) (sym (g .powers)))
+
   pub worded-done : {n p at sum power : ℕ} → Worded n p at sum power
       → Ran d (record { upto = at; length = n; sum = sum; power = power }) p × (4 ≤ at)
   unfolding runningAt
   worded-done g = (record { right = run refl refl (g .sums) (g .powers); behind = g .inside; short = g .short }, g .low)
+
+  pub eight-on : (r : Running) {p : ℕ} → Ran d r p → p - r .upto ≡ 8 → r .upto + 8 ≡ p
+  eight-on r g e = omega (arith, g .behind)
+
+  -- two turns: what is eight bytes further on
+  pub two-words-are : (t : List ℕ) (r : Running) {p v w a b x y : ℕ} → Steps t → 128 ≤ length t → Ran d r p → 4 ≤ r .upto → r .upto + 8 ≡ p → p ≤ length d
+      → r .sum < 2 ^ 32 → v < 2 ^ 32 → w < 2 ^ 32 → v ≡ word (take 4 (drop (r .upto) d)) → w ≡ word (take 4 (drop (r .upto + 4) d))
+      → a ≡ fourBy t (bitXor (r .sum) v) → b ≡ fourBy t (r .power) → x ≡ fourBy t (bitXor a w) → y ≡ fourBy t b
+      → Ran d (record { upto = p; length = r .length; sum = x; power = y }) p
+  two-words-are t r {p} {v} {w} {a} {b} {x} {y} h l g k e m i j n q u f s z o =
+      let one : Worded (r .length) p (r .upto + 4) a b = worded-turn t h l m (worded-start r g k i) (omega arith) j q f s in
+      let two : Worded (r .length) p (r .upto + 4 + 4) x y = worded-turn t h l m one (omega arith) n u z o in
+      let c : r .upto + 4 + 4 ≡ p = omega arith in
+      worded-done (rw c at two) .0
+
+  -- both at once
+  pub adjacent-is : (t : List ℕ) (r : Running) {p v w x y z : ℕ} → Steps t → 2048 ≤ length t → Ran d r p → 4 ≤ r .upto → r .upto + 8 ≡ p → p ≤ length d
+      → r .sum < 2 ^ 32 → r .power < 2 ^ 32 → v < 2 ^ 32 → w < 2 ^ 32
+      → v ≡ word (take 4 (drop (r .upto) d)) → w ≡ word (take 4 (drop (r .upto + 4) d))
+      → x ≡ eightBy t (bitXor (r .sum) v) → y ≡ fourBy t w → z ≡ eightBy t (r .power)
+      → Ran d (record { upto = p; length = r .length; sum = bitXor x y; power = z }) p
+  adjacent-is t r {p} {v} {w} {x} {y} {z} h l g k e m i o j n q u f s c =
+      let s₀ : bitXor (r .sum) v < 2 ^ 32 = xor-lt 32 (r .sum) v i j in
+      let one : Worded (r .length) p (r .upto + 4) (octets 4 (bitXor (r .sum) v)) (octets 4 (r .power)) =
+      worded-next m (worded-start r g k i) (omega arith) j q refl refl
+      in
+      let two : Worded (r .length) p (r .upto + 4 + 4) (bitXor x y) z =
+      worded-next m one (omega arith) n u
+      (ap₂ bitXor (f ∙ h .eight (bitXor (r .sum) v) s₀ l ∙ octets-add 4 4 (bitXor (r .sum) v)) (s ∙ h .four w n (omega arith))
+      ∙ sym (octets-xor 4 (octets 4 (bitXor (r .sum) v)) w))
+      (c ∙ h .eight (r .power) o l ∙ octets-add 4 4 (r .power))
+      in
+      let a : r .upto + 4 + 4 ≡ p = omega arith in
+      worded-done (rw a at two) .0
 
 pub relength-is : (r : Running) (n : ℕ) {a b x : ℕ} → a ≡ field n → b ≡ field (r .length) → x ≡ times 32 (bitXor a b) (r .power)
     → record { upto = r .upto; length = n; sum = bitXor (r .sum) x; power = r .power } ≡ relengthOf r n

@@ -6,7 +6,7 @@ ghost use Rattle.attribute.specs.Scan.{scanned};
 ghost use Rattle.attribute.specs.ScanLaws.{Scanning};
 ghost use Rattle.rfc5389.specs.Rows.{rfc5389};
 ghost use Rattle.crc32.specs.Octets.{word};
-ghost use Rattle.crc32.specs.Rows.{Rows};
+ghost use Rattle.crc32.specs.Rows.{Steps};
 ghost use Rattle.fingerprint.specs.Fingerprint.{printed};
 ghost use Rattle.fingerprint.specs.Register.{field};
 ghost use Rattle.message.specs.Front.{pastOf};
@@ -193,18 +193,25 @@ fn carried(d: &[u8], run: Running, p: usize) -> Running
     }
 }
 
+fn wide(x: u8) -> u32
+    ensures { λ r. ⌜ (r ≡ x) × (r < 256) ⌝ }
+{
+    x as u32
+}
+
 // Four bytes as a number, the first lowest.
 fn low_word(d: &[u8], at: usize) -> u32
     requires { ⌜ at + 4 ≤ length (now d) ⌝ }
     ensures { λ r. ⌜ r ≡ word (take 4 (drop at (now (d .entry)))) ⌝ }
 {
-    let x = u32_at(d, at);
-    x / 16777216 + x / 65536 % 256 * 256 + x / 256 % 256 * 65536 + x % 256 * 16777216
+    let low = wide(d[at]) + wide(d[at + 1]) * 256;
+    let high = wide(d[at + 2]) + wide(d[at + 2 + 1]) * 256;
+    low + high * 65536
 }
 
 // The same by a lent table, four bytes a turn: for the few bytes between two FINGERPRINTs.
 fn words(t: &[u32], d: &[u8], run: Running, p: usize) -> Running
-    requires { ⌜ Rows (now t) × (128 ≤ length (now t)) × Ran (now d) run p × (4 ≤ run .upto) × (p ≤ length (now d)) ⌝ }
+    requires { ⌜ Steps (now t) × (128 ≤ length (now t)) × Ran (now d) run p × (4 ≤ run .upto) × (p ≤ length (now d)) ⌝ }
     ensures { λ r. ⌜ Ran (now (d .entry)) r p × (4 ≤ r .upto) ⌝ }
 {
     let length = run.length;
@@ -221,6 +228,40 @@ fn words(t: &[u32], d: &[u8], run: Running, p: usize) -> Running
         length,
         sum,
         power,
+    }
+}
+
+// The eight bytes from a FINGERPRINT to one right behind it: by half bytes, and by bytes.
+fn two_words(t: &[u32], d: &[u8], run: Running, p: usize) -> Running
+    requires { ⌜ Steps (now t) × (128 ≤ length (now t)) × Ran (now d) run p × (4 ≤ run .upto) × (run .upto + 8 ≡ p) × (p ≤ length (now d)) ⌝ }
+    ensures { λ r. ⌜ Ran (now (d .entry)) r p × (p ≤ r .upto) ⌝ }
+{
+    let at = run.upto;
+    let half = crc32::four_by(t, run.sum ^ low_word(d, at));
+    let sum = crc32::four_by(t, half ^ low_word(d, at + 4));
+    Running {
+        upto: p,
+        length: run.length,
+        sum,
+        power: crc32::four_by(t, crc32::four_by(t, run.power)),
+    }
+}
+
+fn adjacent(t: &[u32], d: &[u8], run: Running, p: usize) -> Running
+    requires { ⌜ Steps (now t) × (128 ≤ length (now t)) × Ran (now d) run p × (4 ≤ run .upto) × (run .upto + 8 ≡ p) × (p ≤ length (now d)) ⌝ }
+    ensures { λ r. ⌜ Ran (now (d .entry)) r p × (p ≤ r .upto) ⌝ }
+{
+    if t.len() < 2048 {
+        return two_words(t, d, run, p);
+    }
+    let at = run.upto;
+    let first = crc32::eight_by(t, run.sum ^ low_word(d, at));
+    let second = crc32::four_by(t, low_word(d, at + 4));
+    Running {
+        upto: p,
+        length: run.length,
+        sum: first ^ second,
+        power: crc32::eight_by(t, run.power),
     }
 }
 
@@ -245,9 +286,20 @@ fn relength(run: Running, n: u16) -> Running
     }
 }
 
+fn between(t: &[u32], d: &[u8], run: Running, p: usize) -> Running
+    requires { ⌜ Steps (now t) × (128 ≤ length (now t)) × Ran (now d) run p × (4 ≤ run .upto) × (p ≤ length (now d)) ⌝ }
+    ensures { λ r. ⌜ Ran (now (d .entry)) r p × (p ≤ r .upto) ⌝ }
+{
+    let near = words(t, d, run, p);
+    if near.upto == p {
+        return near;
+    }
+    carried(d, near, p)
+}
+
 // The register as far as p: few bytes by the table, many by themselves.
 fn gone(t: &[u32], d: &[u8], run: Running, p: usize) -> Running
-    requires { ⌜ Rows (now t) × Ran (now d) run p × (20 ≤ p) × (p ≤ length (now d)) ⌝ }
+    requires { ⌜ Steps (now t) × Ran (now d) run p × (20 ≤ p) × (p ≤ length (now d)) ⌝ }
     ensures { λ r. ⌜ Ran (now (d .entry)) r p × (p ≤ r .upto) ⌝ }
 {
     if run.upto < 4 {
@@ -259,16 +311,15 @@ fn gone(t: &[u32], d: &[u8], run: Running, p: usize) -> Running
     if t.len() < 128 {
         return carried(d, run, p);
     }
-    let near = words(t, d, run, p);
-    if near.upto == p {
-        return near;
+    if p - run.upto == 8 {
+        return adjacent(t, d, run, p);
     }
-    carried(d, near, p)
+    between(t, d, run, p)
 }
 
 // The register at p, with the length of a FINGERPRINT there.
 fn onward(t: &[u32], d: &[u8], run: Running, p: usize) -> Running
-    requires { ⌜ Rows (now t) × Ran (now d) run p × (20 ≤ p) × (p ≤ length (now d)) × (p - 20 + 8 ≤ 65535) ⌝ }
+    requires { ⌜ Steps (now t) × Ran (now d) run p × (20 ≤ p) × (p ≤ length (now d)) × (p - 20 + 8 ≤ 65535) ⌝ }
     ensures { λ r. ⌜ r ≡ runningAt (now (d .entry)) p (p - 20 + 8) ⌝ }
 {
     relength(gone(t, d, run, p), (p - 20 + 8) as u16)
@@ -276,7 +327,7 @@ fn onward(t: &[u32], d: &[u8], run: Running, p: usize) -> Running
 
 // A FINGERPRINT that ends the datagram is summed in one piece: the usual one is the only one.
 fn sum_at(t: &[u32], d: &[u8], run: Running, p: usize) -> Summed
-    requires { ⌜ Rows (now t) × Ran (now d) run p × (20 ≤ p) × (p ≤ length (now d)) × (p - 20 + 8 ≤ 65535) ⌝ }
+    requires { ⌜ Steps (now t) × Ran (now d) run p × (20 ≤ p) × (p ≤ length (now d)) × (p - 20 + 8 ≤ 65535) ⌝ }
     ensures value { λ r. ⌜ r .value ≡ printed (now (d .entry)) p ⌝ }
     ensures run { λ r. ⌜ Ran (now (d .entry)) (r .run) p ⌝ }
 {
@@ -295,7 +346,7 @@ fn sum_at(t: &[u32], d: &[u8], run: Running, p: usize) -> Summed
 
 // What is wrong with the attribute at p as a FINGERPRINT: 0, 16 or 15; 0 where it is none.
 fn print_fault(t: &[u32], d: &[u8], run: Running, p: usize, kind: u16, size: usize) -> Verdict
-    requires { ⌜ Rows (now t) × Ran (now d) run p × (20 ≤ p) × (p + 4 + size ≤ length (now d)) ⌝ }
+    requires { ⌜ Steps (now t) × Ran (now d) run p × (20 ≤ p) × (p + 4 + size ≤ length (now d)) ⌝ }
     ensures fault { λ r. ⌜ r .fault ≡ printFault (now (d .entry)) p kind (take size (drop (p + 4) (now (d .entry)))) ⌝ }
     ensures run { λ r. ⌜ Ran (now (d .entry)) (r .run) p ⌝ }
 {
@@ -318,7 +369,7 @@ fn print_fault(t: &[u32], d: &[u8], run: Running, p: usize, kind: u16, size: usi
 
 // Each FINGERPRINT, from the first: none stands before `from`, and `before` attributes do.
 fn prints(t: &[u32], d: &[u8], from: usize, before: usize) -> Scan
-    requires { ⌜ Rows (now t) × Scanning (printFaults (now d)) (now d) from before ⌝ }
+    requires { ⌜ Steps (now t) × Scanning (printFaults (now d)) (now d) from before ⌝ }
     ensures { λ r. ⌜ r ≡ scanned (printFaults (now (d .entry))) (now (d .entry)) ⌝ }
 {
     let mut at = from;
@@ -373,15 +424,27 @@ fn prints(t: &[u32], d: &[u8], from: usize, before: usize) -> Scan
     }
 }
 
-// Making the table pays where more than one FINGERPRINT may follow.
+fn printed_few(d: &[u8], front: Front) -> Scan
+    requires { ⌜ Scanning (printFaults (now d)) (now d) (front .at) (front .count) ⌝ }
+    ensures { λ r. ⌜ r ≡ scanned (printFaults (now (d .entry))) (now (d .entry)) ⌝ }
+{
+    let t = crc32::tables::EIGHT_ROWS;
+    prints(&t, d, front.at, front.count)
+}
+
+// Making a table pays where more than one FINGERPRINT may follow, and making a large one where very many may.
 fn printed_from(d: &[u8], front: Front) -> Scan
     requires { ⌜ Scanning (printFaults (now d)) (now d) (front .at) (front .count) ⌝ }
     ensures { λ r. ⌜ r ≡ scanned (printFaults (now (d .entry))) (now (d .entry)) ⌝ }
 {
-    if d.len() - front.at <= 8 {
+    let left = d.len() - front.at;
+    if left <= 8 {
         return prints(&[], d, front.at, front.count);
     }
-    let t = crc32::tables::EIGHT_ROWS;
+    if left <= 2048 {
+        return printed_few(d, front);
+    }
+    let t = crc32::byte_rows();
     prints(&t, d, front.at, front.count)
 }
 

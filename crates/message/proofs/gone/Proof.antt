@@ -1,4 +1,4 @@
-use Rattle.message.proofs.Runs.{begun-ran, begun-far, begun-short, arrived, there}
+use Rattle.message.proofs.Runs.{begun-ran, begun-far, begun-short, arrived, there, eight-on}
 use borrow.Author.Needs.{needs}
 use Rattle.message.proofs.gone.Statement.{statement}
 use Rattle.message.proofs.gone.Tie as tie
@@ -15,8 +15,8 @@ returns-2 c = (search (arrived), search (there))
 returns-3 : tie.Need-returns-3
 returns-3 c = (search (arrived), search (there))
 
-returns-5 : tie.Need-returns-5
-returns-5 c = (search (arrived), search (there))
+adjacent-requires : tie.Need-adjacent-requires
+adjacent-requires c κs = (search needs, search needs, search needs, search needs, search (eight-on), search needs)
 
 pub gone-spec : {M : Type 1} → statement M
 gone-spec =
@@ -30,7 +30,8 @@ gone-spec =
     returns-2
     (λ c κs. search needs)
     returns-3
-    (λ c κs. search needs)
+    (λ c. search needs)
+    adjacent-requires
     (λ c. search needs)
     (λ c κs. search needs)
-    returns-5)
+    (λ c. search needs))

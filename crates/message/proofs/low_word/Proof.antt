@@ -1,19 +1,29 @@
-use native.Mathlib.Omega.{arith}
 use Rattle.message.proofs.Runs.{word-is}
 use borrow.Author.Needs.{needs}
 use Rattle.message.proofs.low_word.Statement.{statement}
 use Rattle.message.proofs.low_word.Tie as tie
 
 returns : tie.Need-returns
-returns c = search (word-is (c .before .before .args .d .now) (λ i. omega (arith, c .before .shared-slice-known .given i)))
+returns c = search (word-is)
 
 pub low-word-spec : {M : Type 1} → statement M
 low-word-spec =
     tie.close
     (tie.spec
+    (λ c. search needs)
     (λ c κs. search needs)
     (λ c. search needs)
     (λ c. search needs)
+    (λ c κs. search needs)
+    (λ c. search needs)
+    (λ c. search needs)
+    (λ c. search needs)
+    (λ c. search needs)
+    (λ c κs. search needs)
+    (λ c. search needs)
+    (λ c. search needs)
+    (λ c. search needs)
+    (λ c κs. search needs)
     (λ c. search needs)
     (λ c. search needs)
     (λ c. search needs)

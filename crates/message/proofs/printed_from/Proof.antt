@@ -1,13 +1,10 @@
--- The table passes the test of its rule.
-use Rattle.crc32.specs.Crc.{bitStep, bitSteps}
-use Rattle.crc32.specs.RowsLaws.{rows}
+use Rattle.crc32.specs.RowsLaws.{byte-steps}
 use borrow.Author.Needs.{needs}
 use Rattle.message.proofs.printed_from.Statement.{statement}
 use Rattle.message.proofs.printed_from.Tie as tie
 
 prints-requires-2 : tie.Need-prints-requires-2
-unfolding bitSteps bitStep
-prints-requires-2 c κs = (rows _ tt, search needs)
+prints-requires-2 c κs = (byte-steps _ (search needs), search needs)
 
 pub printed-from-spec : {M : Type 1} → statement M
 printed-from-spec =
@@ -17,6 +14,9 @@ printed-from-spec =
     (λ c. search needs)
     (λ c κs. search needs)
     (λ c. search needs)
+    (λ c κs. search needs)
+    (λ c. search needs)
+    (λ c κs. search needs)
     (λ c. search needs)
     prints-requires-2
     (λ c. search needs))

@@ -1,0 +1,33 @@
+use Rattle.crc32.proofs.Halves.{bytes-are}
+use borrow.Author.Needs.{needs}
+use Rattle.crc32.proofs.wide.Statement.{statement}
+use Rattle.crc32.proofs.wide.Tie as tie
+
+returns : tie.Need-returns
+returns c = search (bytes-are)
+
+pub wide-spec : {M : Type 1} → statement M
+wide-spec =
+    tie.close
+    (tie.spec
+    (λ c. search needs)
+    (λ c. search needs)
+    (λ c. search needs)
+    (λ c. search needs)
+    (λ c. search needs)
+    (λ c. search needs)
+    (λ c. search needs)
+    (λ c. search needs)
+    (λ c. search needs)
+    (λ c. search needs)
+    (λ c. search needs)
+    (λ c. search needs)
+    (λ c. search needs)
+    (λ c. search needs)
+    (λ c. search needs)
+    (λ c. search needs)
+    (λ c. search needs)
+    (λ c. search needs)
+    (λ c. search needs)
+    (λ c. search needs)
+    returns)
