@@ -124,11 +124,20 @@ pub fn header(kind: u16) -> Vec<u8> {
     d
 }
 
-/// SOFTWARE, XOR-MAPPED-ADDRESS and MESSAGE-INTEGRITY.
-pub fn usual(d: &mut Vec<u8>) {
+/// SOFTWARE and XOR-MAPPED-ADDRESS.
+pub fn unsigned(d: &mut Vec<u8>) {
     attribute(d, 0x8022, b"a server of thirty bytes, 1.00");
     attribute(d, 0x0020, &[0, 1, 0xA1, 0x47, 0xE1, 0x12, 0xA6, 0x43]);
+}
+
+pub fn integrity(d: &mut Vec<u8>) {
     attribute(d, 0x0008, &[0xA5; 20]);
+}
+
+/// What a usual response holds besides its FINGERPRINT.
+pub fn usual(d: &mut Vec<u8>) {
+    unsigned(d);
+    integrity(d);
 }
 
 /// A Binding response of 100 bytes with these and FINGERPRINT.

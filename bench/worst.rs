@@ -1,8 +1,8 @@
 //! The longest datagrams that UDP carries, each of a shape that could be slow, beside a plain one of the same size: what a usual
-//! response holds, over and over. A ratio of 0.25 is a cost per byte of four times the plain one's. Then calls beside themselves at
-//! half the size: a ratio of 0.5 is a cost that is linear.
+//! response holds, over and over. A ratio of 0.25 is a cost per byte of four times the plain one's. Then calls beside themselves where
+//! what they look for stands first in the plain one, and at half the size: there a ratio of 0.5 is a cost that is linear.
 use crate::measure;
-use crate::reader::{attribute, fingerprint, header, ours, usual};
+use crate::reader::{self, attribute, fingerprint, header, ours, unsigned, usual};
 use std::hint::black_box;
 
 #[repr(C)]
@@ -56,10 +56,10 @@ pub fn plain(size: usize) -> Vec<u8> {
     d
 }
 
-/// The only MESSAGE-INTEGRITY stands at the end.
+/// As the plain one, but the only MESSAGE-INTEGRITY stands at the end.
 fn signed() -> Vec<u8> {
-    let mut d = filled(SIZE, 32, |d| attribute(d, 0x8022, b"a server of thirty bytes, 1.00"));
-    attribute(&mut d, 0x0008, &[0xA5; 20]);
+    let mut d = filled(SIZE, 32, unsigned);
+    reader::integrity(&mut d);
     fingerprint(&mut d);
     d
 }
@@ -81,6 +81,10 @@ fn integrity(d: &mut [u8]) -> bool {
 
 fn first_value(d: &mut [u8]) -> bool {
     unsafe { cratehoist_first_value(d.as_ptr(), d.len(), 0x8028).there }
+}
+
+fn first_of_all(d: &mut [u8]) -> bool {
+    unsafe { cratehoist_first_value(d.as_ptr(), d.len(), 0x8022).there }
 }
 
 fn realm(d: &mut [u8]) -> bool {
@@ -127,6 +131,12 @@ pub fn run() {
     for (name, mut d, call) in [("first value, last", plain(SIZE), first_value as Call), ("check integrity, last", signed(), integrity)] {
         assert!(call(&mut d), "{name}");
         measure::row(name, d.len(), "read, plain", || _ = black_box(call(black_box(&mut d))), || _ = black_box(ours(black_box(&usual))));
+    }
+    let calls = [("first value, last", plain(SIZE), first_value as Call, first_of_all as Call), ("check integrity, last", signed(), integrity, integrity)];
+    for (name, mut d, call, same) in calls {
+        let mut first = plain(SIZE);
+        assert!(call(&mut d) && same(&mut first), "{name}");
+        measure::row(name, d.len(), "first, plain", || _ = black_box(call(black_box(&mut d))), || _ = black_box(same(black_box(&mut first))));
     }
     for (name, room, call) in CALLS {
         let of = |size| {

@@ -117,7 +117,7 @@ pub fn product(t: u32, m: u32) -> u32
     digits(27, five_digits(Factors { sum: 0, t, m }))
 }
 
-// ---- by half bytes
+// ---- by tables, of half bytes and of bytes
 
 // The low byte of `x` by its halves, with the steps of the `k` bytes behind it.
 fn look(t: &[u32], k: usize, x: u32) -> u32
@@ -200,7 +200,7 @@ fn four_more(w: [u32; 2048]) -> [u32; 2048]
     w
 }
 
-// Eight rows of bytes. Making them takes as long as some hundred steps by half bytes.
+// Eight rows of bytes: half the look-ups, for one who takes so many steps that making the rows pays.
 pub fn byte_rows() -> [u32; 2048]
     ensures { λ r. ⌜ r ≡ byteRows 2048 ⌝ }
 {

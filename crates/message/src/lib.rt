@@ -209,7 +209,7 @@ fn low_word(d: &[u8], at: usize) -> u32
     low + high * 65536
 }
 
-// The same by a lent table, four bytes a turn: for the few bytes between two FINGERPRINTs.
+// Carried by a lent table, four bytes a turn: for the few bytes between two FINGERPRINTs.
 fn words(t: &[u32], d: &[u8], run: Running, p: usize) -> Running
     requires { ⌜ Steps (now t) × (128 ≤ length (now t)) × Ran (now d) run p × (4 ≤ run .upto) × (p ≤ length (now d)) ⌝ }
     ensures { λ r. ⌜ Ran (now (d .entry)) r p × (4 ≤ r .upto) ⌝ }
@@ -231,7 +231,7 @@ fn words(t: &[u32], d: &[u8], run: Running, p: usize) -> Running
     }
 }
 
-// The eight bytes from a FINGERPRINT to one right behind it: by half bytes, and by bytes.
+// Eight bytes by half bytes.
 fn two_words(t: &[u32], d: &[u8], run: Running, p: usize) -> Running
     requires { ⌜ Steps (now t) × (128 ≤ length (now t)) × Ran (now d) run p × (4 ≤ run .upto) × (run .upto + 8 ≡ p) × (p ≤ length (now d)) ⌝ }
     ensures { λ r. ⌜ Ran (now (d .entry)) r p × (p ≤ r .upto) ⌝ }
@@ -247,6 +247,7 @@ fn two_words(t: &[u32], d: &[u8], run: Running, p: usize) -> Running
     }
 }
 
+// From a FINGERPRINT to one right behind it, with no loop.
 fn adjacent(t: &[u32], d: &[u8], run: Running, p: usize) -> Running
     requires { ⌜ Steps (now t) × (128 ≤ length (now t)) × Ran (now d) run p × (4 ≤ run .upto) × (run .upto + 8 ≡ p) × (p ≤ length (now d)) ⌝ }
     ensures { λ r. ⌜ Ran (now (d .entry)) r p × (p ≤ r .upto) ⌝ }
@@ -286,6 +287,7 @@ fn relength(run: Running, n: u16) -> Running
     }
 }
 
+// Whole words by the table, and what is left over.
 fn between(t: &[u32], d: &[u8], run: Running, p: usize) -> Running
     requires { ⌜ Steps (now t) × (128 ≤ length (now t)) × Ran (now d) run p × (4 ≤ run .upto) × (p ≤ length (now d)) ⌝ }
     ensures { λ r. ⌜ Ran (now (d .entry)) r p × (p ≤ r .upto) ⌝ }

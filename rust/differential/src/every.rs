@@ -350,6 +350,22 @@ pub fn fingerprints(t: &mut Tally, r: &mut Random) {
     t.datagram(r, &d, b"k");
     d[1500] ^= 1;
     t.datagram(r, &d, b"k");
+    // few bytes and many between two of them, and each third wrong in turn
+    for first in 0..4 {
+        let (mut d, mut places) = (datagram(&[]), Vec::new());
+        for k in 0..90 {
+            places.push(d.len());
+            fingerprinted(&mut d);
+            d.extend(attribute(0xC001, &vec![0x5A; (first + 7 * k) % 97]));
+            relength(&mut d);
+        }
+        t.datagram(r, &d, b"k");
+        for place in places.into_iter().step_by(3) {
+            d[place + 4] ^= 1;
+            t.read(&d);
+            d[place + 4] ^= 1;
+        }
+    }
 }
 
 /// Every cut and every change of one byte of messages with each known attribute.
