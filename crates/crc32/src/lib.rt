@@ -109,8 +109,7 @@ fn digits(k: u32, s: Factors) -> u32
 pub fn product(t: u32, m: u32) -> u32
     ensures { λ r. ⌜ r ≡ times 32 t m ⌝ }
 {
-    // Two lengths that are multiples of eight most often differ in the fifth digit alone, or in these five, which are taken without
-    // a branch.
+    // Two lengths that are multiples of eight mostly differ in the fifth digit alone, or in the first five, taken without a loop.
     if t == 0x0800_0000 {
         return bit_step(bit_step(bit_step(bit_step(m))));
     }

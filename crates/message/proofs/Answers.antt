@@ -1,13 +1,13 @@
 -- What `judged` and `read` return, case by case.
 use Prim.Native.Nat.{ℕ, _≤_}
 use mathlib.Core.List.{List}
-use mathlib.Core.Path.{_≡_, refl, sym, ap, ap₂, _∙_}
+use mathlib.Core.Path.{_≡_, sym, ap, ap₂, _∙_}
 use borrow.Author.Tests.{eq-eqb, ne-eqb}
 use lib.ListN.{length}
 use Rattle.wire.specs.declared.method.Method.{Method}
 use Rattle.wire.specs.declared.transaction_id.TransactionId.{TransactionId}
 use Rattle.wire.specs.declared.types.MessageClass.{MessageClass}
-use Rattle.header.specs.Header.{headerFault, headerOf, told, refusedBy, idOf}
+use Rattle.header.specs.Header.{headerFault, headerOf, told, idOf}
 use Rattle.header.specs.HeaderLaws.{Said, said, Not, refused, long}
 use Rattle.header.specs.declared.Header.{Header}
 use Rattle.header.specs.declared.Head.the-variants as head
@@ -16,9 +16,7 @@ use Rattle.attribute.specs.declared.Scan.{Scan}
 use Rattle.attribute.specs.declared.Scan.the-variants.{Passed, Fault}
 use Rattle.rfc5389.specs.Rows.{rfc5389}
 use Rattle.message.specs.Reading.{valueFaults, printFaults, andThen, outcome, answered, readingOf}
-use Rattle.message.specs.declared.Answer.{Answer}
 use Rattle.message.specs.declared.Answer.the-variants.{Whole, Broken, Refused}
-use Rattle.message.specs.declared.Reading.{Reading}
 
 module _ (d : List ℕ) {s : Scan} (e : s ≡ scanned (valueFaults rfc5389) d) where
   pub first : {r p : ℕ} → s ≡ Fault r p → s ≡ outcome rfc5389 d

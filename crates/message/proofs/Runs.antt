@@ -1,5 +1,5 @@
 -- The register carried from FINGERPRINT to FINGERPRINT: what the functions of the run return.
-use Prim.Native.Nat.{ℕ, _+_, _-_, _*_, _/_, _%_, _^_, _≤_, _<_}
+use Prim.Native.Nat.{ℕ, _+_, _-_, _*_, _^_, _≤_, _<_}
 use mathlib.Core.List.{List, [], _∷_, _++_, append-nil}
 use mathlib.Core.Path.{_≡_, refl, sym, ap, ap₂, _∙_, subst}
 use native.Mathlib.Omega.{arith}
@@ -12,7 +12,7 @@ use Rattle.crc32.specs.Crc.{bitStep, bitSteps, bytesFrom, finished}
 use Rattle.crc32.specs.Octets.{octets, word, times}
 use Rattle.crc32.specs.CrcLaws.{bytesFrom-append, octets-add, octets-xor, octets-lt, at-once, apart, low-byte}
 use Rattle.crc32.specs.Rows.{Steps, fourBy, eightBy}
-use Rattle.fingerprint.specs.Fingerprint.{fingerprintAt, printed}
+use Rattle.fingerprint.specs.Fingerprint.{printed}
 use Rattle.fingerprint.specs.Register.{register, field}
 use Rattle.fingerprint.specs.RegisterLaws.{parts, register-on, register-other, print-of}
 use Rattle.message.specs.Running.{runningAt, relengthOf, Ran}

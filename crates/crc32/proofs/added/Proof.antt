@@ -1,5 +1,4 @@
 use Rattle.crc32.proofs.Multiplied.{clear, set}
-use borrow.Author.Needs.{needs}
 use Rattle.crc32.proofs.added.Statement.{statement}
 use Rattle.crc32.proofs.added.Tie as tie
 
