@@ -5,8 +5,10 @@ use Prim.Native.Nat.{ℕ, zero, suc, _+_, _-_, _/_, _%_, _≤_, _<_}
 use native.Mathlib.Omega.{arith}
 use lib.ListN.{length, take, drop, set, replicate, length-drop, take-append-drop}
 use lib.Seq.{take-at, take-all, drop-set-lt}
-use Rattle.sha1.specs.declared.State.{State}
-use Rattle.sha1.specs.Sha1.{start, compress, finished, sha1, blockOf}
+use Rattle.compression.specs.declared.State.{State}
+use Rattle.compression.specs.Compression.{start, compress, run}
+use Rattle.compression.specs.CompressionLaws.{run-one}
+use Rattle.sha1.specs.Sha1.{finished, sha1, blockOf}
 use Rattle.sha1.specs.Sha1Laws.{finished-block, block-short, block-long, length-block}
 use Rattle.numbers.specs.Numbers.{withLength}
 use Rattle.numbers.specs.NumbersLaws.{length-withLength}
@@ -44,7 +46,7 @@ short m n h {b} {r} k e f =
     f ∙ rw (t, length-withLength)
 
 -- a message of a block and more
-pub long : (m : List ℕ) (n : ℕ) (h : State) {b r : List ℕ} {g : State} → 64 ≤ length m → b ≡ withLength (blockOf m) n → g ≡ compress b h
+pub long : (m : List ℕ) (n : ℕ) (h : State) {b r : List ℕ} {g : State} → 64 ≤ length m → b ≡ withLength (blockOf m) n → g ≡ run b h
     → r ≡ finished g (128 + length (take (length m - 64) (drop 64 m))) (take (length m - 64) (drop 64 m))
     → r ≡ finished h (64 + length m) (withLength m n)
 long m n h {b} {r} {g} k eb eg er =
@@ -53,7 +55,7 @@ long m n h {b} {r} {g} k eb eg er =
     let first : take 64 (withLength m n) ≡ b = take-with 64 m n ∙ ap (λ (l : List ℕ). withLength l n) (sym (block-long m k)) ∙ sym eb in
     let l : length b ≡ 64 = ap length eb ∙ length-withLength (blockOf m) n ∙ length-block m in
     let whole : withLength m n ≡ b ++ drop 64 m = sym (take-append-drop 64 (withLength m n)) ∙ rw (first, drop-with m n) in
-    er ∙ rw (d, c, eg, whole) (sym (finished-block b (drop 64 m) (64 + length m) h l))
+    er ∙ rw (d, c, eg ∙ run-one b h l, whole) (sym (finished-block b (drop 64 m) (64 + length m) h l))
 
 -- the whole code of a message with another length field
 signed : (k m : List ℕ) (n : ℕ) {b i r : List ℕ} {h : State} → b ≡ keyBlock k → h ≡ compress (xored b 0x36) start

@@ -9,8 +9,10 @@ use borrow.Author.Tests.{le-leb, lt-leb}
 use lib.ListN.{length, take, drop, getD, set, length-append, length-map, drop-of-length-le}
 use lib.Seq.{take-all}
 use lib.Bits.{bitXor}
-use Rattle.sha1.specs.declared.State.{State}
-use Rattle.sha1.specs.Sha1.{start, compress, finished, sha1, blockOf}
+use Rattle.compression.specs.declared.State.{State}
+use Rattle.compression.specs.Compression.{start, compress, run}
+use Rattle.compression.specs.CompressionLaws.{run-one}
+use Rattle.sha1.specs.Sha1.{finished, sha1, blockOf}
 use Rattle.sha1.specs.Sha1Laws.{finished-block, length-block}
 use Rattle.hmac.specs.Hmac.{keyBlock, xored, hmacOf}
 
@@ -54,6 +56,10 @@ xoring-done {k} {b} {x} {i} g h =
 length-xored : (k : List ℕ) (x : ℕ) → length (xored k x) ≡ length k
 unfolding xored
 length-xored k x = length-map k _
+
+-- the key's block, taken in
+pub keyed-by : (k : List ℕ) (x : ℕ) {b : List ℕ} {r : State} → length k ≡ 64 → b ≡ xored k x → r ≡ run b start → r ≡ compress (xored k x) start
+keyed-by k x l e f = f ∙ ap (λ (b : List ℕ). run b start) e ∙ run-one (xored k x) start (length-xored k x ∙ l)
 
 -- a hash that goes on behind the key's block
 pub behind : (k : List ℕ) (x : ℕ) (m : List ℕ) {h : State} {r : List ℕ} → length k ≡ 64 → h ≡ compress (xored k x) start

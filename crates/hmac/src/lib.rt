@@ -3,11 +3,12 @@ ghost use mathlib.Core.Path.{_≡_};
 ghost use mathlib.Core.List.{_++_};
 ghost use Prim.Native.Nat.{_+_};
 ghost use lib.ListN.{length, take};
-ghost use Rattle.sha1.specs.Sha1.{start, compress, finished, sha1, blockOf};
+ghost use Rattle.compression.specs.Compression.{start, compress};
+ghost use Rattle.sha1.specs.Sha1.{finished, sha1, blockOf};
 ghost use Rattle.base.specs.Same.{same};
 ghost use Rattle.numbers.specs.Numbers.{withLength};
 ghost use Rattle.hmac.specs.Hmac as spec;
-use sha1::State;
+use compression::State;
 
 // The key as one block.
 fn key_block(k: &[u8]) -> [u8; 64]
@@ -37,7 +38,7 @@ fn keyed(k: [u8; 64], x: u8) -> State
     ensures { λ r. ⌜ r ≡ compress (spec.xored k x) start ⌝ }
 {
     let b = xored(k, x);
-    sha1::absorb(sha1::START, &b)
+    compression::absorb(compression::START, &b)
 }
 
 // The outer hash, over the inner digest m.
@@ -74,7 +75,7 @@ fn inner(h: State, m: &[u8], n: u16) -> [u8; 20]
     if p < 64 {
         sha1::finish(h, 1, &b[0..p])
     } else {
-        sha1::finish(sha1::absorb(h, &b), 2, &m[64..])
+        sha1::finish(compression::absorb(h, &b), 2, &m[64..])
     }
 }
 

@@ -3,12 +3,10 @@ use Prim.Native.Nat.{ℕ, _+_, _*_}
 use mathlib.Core.List.{List}
 use lib.ListN.{length}
 use Rattle.base.specs.Determined.{Determines, by}
-use Rattle.sha1.specs.declared.State.{State}
-use Rattle.sha1.specs.Sha1.{blockOf, compress, finished, sha1}
+use Rattle.compression.specs.declared.State.{State}
+use Rattle.sha1.specs.Sha1.{blockOf, finished, sha1}
 use Rattle.sha1.proofs.block.Kinds as block
 use Rattle.sha1.proofs.block.Reads as block-reads
-use Rattle.sha1.proofs.absorb.Kinds as absorb
-use Rattle.sha1.proofs.absorb.Reads as absorb-reads
 use Rattle.sha1.proofs.finish.Kinds as finish
 use Rattle.sha1.proofs.finish.Reads as finish-reads
 use Rattle.sha1.proofs.hash.Kinds as hash
@@ -16,10 +14,6 @@ use Rattle.sha1.proofs.hash.Reads as hash-reads
 
 pub block-determined : Determines block.ps block.r {I = List ℕ} {A = List ℕ} block-reads.Asked block-reads.Learnt (λ κs a. a .0 .now) (λ κs z e. z)
 block-determined = by block.ps block.r block-reads.Asked block-reads.Learnt _ _ blockOf (λ κs a y d i q. q)
-
-pub absorb-determined : Determines absorb.ps absorb.r {I = State × List ℕ} {A = State} absorb-reads.Asked absorb-reads.Learnt
-    (λ κs a. (a .0, a .1 .0 .now)) (λ κs z e. z)
-absorb-determined = by absorb.ps absorb.r absorb-reads.Asked absorb-reads.Learnt _ _ (λ x. compress (x .1) (x .0)) (λ κs a y d i q. q)
 
 pub finish-determined : Determines finish.ps finish.r {I = State × ℕ × List ℕ} {A = List ℕ} finish-reads.Asked finish-reads.Learnt
     (λ κs a. (a .0, a .1 .0, a .1 .1 .0 .now)) (λ κs z e. z)

@@ -1,14 +1,16 @@
 -- A block that is loaded, and the last blocks of a message: what is left of it, the padding, the count.
 use mathlib.Core.Path.{_≡_, refl, ap, sym, _∙_}
 use mathlib.Core.List.{List, [], _∷_, _++_, append-assoc, append-nil}
-use Prim.Native.Nat.{ℕ, suc, _+_, _-_, _*_, _%_, _^_, _≤_, _<_}
+use Prim.Native.Nat.{ℕ, suc, _+_, _-_, _*_, _/_, _%_, _^_, _≤_, _<_}
 use native.Mathlib.Numerals.{add-one}
 use native.Mathlib.Omega.{arith}
 use lib.ListN.{length, take, drop, getD, set, replicate, length-append, length-replicate, length-drop, drop-of-length-le, replicate-append-replicate, take-append-drop}
 use lib.Seq.{take-suc, take-length, set-at, take-at, take-all, sets-eq, length-take-le, append-snoc, set-append-seam}
-use Rattle.sha1.specs.declared.State.{State}
-use Rattle.sha1.specs.Sha1.{start, countOf, padding, run, compress, finished, sha1, blockOf}
-use Rattle.sha1.specs.Sha1Laws.{run-block, run-one, block-short, block-long}
+use Rattle.compression.specs.declared.State.{State}
+use Rattle.compression.specs.Compression.{start, run}
+use Rattle.compression.specs.CompressionLaws.{run-behind, run-on}
+use Rattle.sha1.specs.Sha1.{countOf, padding, digest, finished, sha1, blockOf}
+use Rattle.sha1.specs.Sha1Laws.{block-short, block-long}
 
 -- i bytes of s stand before the zeros of a block
 pub record Filling (s b : List ℕ) (i : ℕ) : Type 0 where
@@ -54,10 +56,6 @@ pub stored8 : (b : List ℕ) (x₀ x₁ x₂ x₃ x₄ x₅ x₆ x₇ : ℕ) →
 stored8 b x₀ x₁ x₂ x₃ x₄ x₅ x₆ x₇ e =
     sets-eq (x₀ ∷ x₁ ∷ x₂ ∷ x₃ ∷ x₄ ∷ x₅ ∷ x₆ ∷ x₇ ∷ []) b 56 (omega arith) ∙ rw (drop-of-length-le b {i = 64} (omega arith), append-nil)
 
-length-count : (n : ℕ) → length (countOf n) ≡ 8
-unfolding countOf
-length-count n = refl
-
 -- what is left of a message of n bytes, with the padding's first byte behind it, fits a block
 module _ (s : List ℕ) (n : ℕ) (h : State) (e : length s ≡ n % 64) where
   marked : set (blockOf s) (length s) 128 ≡ s ++ 128 ∷ replicate (63 - length s) 0
@@ -66,7 +64,7 @@ module _ (s : List ℕ) (n : ℕ) (h : State) (e : length s ≡ n % 64) where
       rw (block-short s (omega arith), d) (set-append-seam s 0 (replicate (63 - length s) 0) 128)
 
   -- the count fits in behind it
-  pub last-one : {b c : List ℕ} {r : State} → length s < 56 → b ≡ blockOf s → c ≡ take 56 (set b (length s) 128) ++ countOf n → r ≡ compress c h
+  pub last-one : {b c : List ℕ} {r : State} → length s < 56 → b ≡ blockOf s → c ≡ take 56 (set b (length s) 128) ++ countOf n → r ≡ run c h
       → r ≡ run (s ++ padding n) h
   unfolding padding
   last-one {b} {c} {r} k eb ec er =
@@ -78,12 +76,11 @@ module _ (s : List ℕ) (n : ℕ) (h : State) (e : length s ≡ n % 64) where
       (take-at a (replicate 8 0) 56 (simp (length-append, length-replicate) (omega arith))) in
       let whole : s ++ padding n ≡ a ++ countOf n = rw z (sym (append-assoc s (128 ∷ replicate (55 - length s) 0) (countOf n))) in
       let full : c ≡ a ++ countOf n = ec ∙ ap (λ (l : List ℕ). take 56 (set l (length s) 128) ++ countOf n) eb ∙ ap (λ (l : List ℕ). l ++ countOf n) (ap (take 56) marked ∙ head) in
-      er ∙ ap (λ (l : List ℕ). compress l h) full
-      ∙ sym (ap (λ (l : List ℕ). run l h) whole ∙ run-one (a ++ countOf n) h (simp (length-append, length-replicate, length-count) (omega arith)))
+      er ∙ ap (λ (l : List ℕ). run l h) (full ∙ sym whole)
 
   -- or it stands in a block of its own
-  pub last-two : {b c : List ℕ} {g r : State} → 56 ≤ length s → b ≡ blockOf s → g ≡ compress (set b (length s) 128) h
-      → c ≡ take 56 (replicate 64 0) ++ countOf n → r ≡ compress c g → r ≡ run (s ++ padding n) h
+  pub last-two : {b c : List ℕ} {g r : State} → 56 ≤ length s → b ≡ blockOf s → g ≡ run (set b (length s) 128) h
+      → c ≡ take 56 (replicate 64 0) ++ countOf n → r ≡ run c g → r ≡ run (s ++ padding n) h
   unfolding padding
   last-two {b} {c} {g} {r} k eb eg ec er =
       let z : (119 - n % 64) % 64 ≡ (63 - length s) + 56 = omega arith in
@@ -92,33 +89,22 @@ module _ (s : List ℕ) (n : ℕ) (h : State) (e : length s ≡ n % 64) where
       let zeros : replicate ((119 - n % 64) % 64) 0 ++ countOf n ≡ replicate (63 - length s) 0 ++ q =
       rw (z, ← replicate-append-replicate {A = ℕ} (63 - length s) 56 0) (append-assoc (replicate {A = ℕ} (63 - length s) 0) (replicate 56 0) (countOf n)) in
       let whole : s ++ padding n ≡ a ++ q = ap (λ (l : List ℕ). s ++ 128 ∷ l) zeros ∙ sym (append-assoc s (128 ∷ replicate (63 - length s) 0) q) in
-      let first : g ≡ compress a h = eg ∙ ap (λ (l : List ℕ). compress (set l (length s) 128) h) eb ∙ ap (λ (l : List ℕ). compress l h) marked in
-      er ∙ ap (λ (l : List ℕ). compress l g) ec ∙ ap (compress q) first
-      ∙ sym
-      (ap (λ (l : List ℕ). run l h) whole
-      ∙ run-block a q h (simp (length-append, length-replicate) (omega arith))
-      ∙ run-one q (compress a h) (simp length-count))
+      let first : g ≡ run a h = eg ∙ ap (λ (l : List ℕ). run (set l (length s) 128) h) eb ∙ ap (λ (l : List ℕ). run l h) marked in
+      er ∙ ap (λ (l : List ℕ). run l g) ec ∙ ap (run q) first
+      ∙ sym (ap (λ (l : List ℕ). run l h) whole ∙ run-behind a q h (simp (length-append, length-replicate) (omega arith)))
 
--- the hash value g has taken in what stands before t
-pub record Running (s : List ℕ) (n : ℕ) (h g : State) (t : List ℕ) : Type 0 where
-  pub whole : length t % 64 ≡ n % 64
-  pub same : run (t ++ padding n) g ≡ run (s ++ padding n) h
+-- the whole blocks, and then the last
+pub ran : (s : List ℕ) (n : ℕ) (h : State) {g r : State} → g ≡ run s h
+    → r ≡ run (take (length s - length s / 64 * 64) (drop (length s / 64 * 64) s) ++ padding n) g → r ≡ run (s ++ padding n) h
+ran s n h {g} {r} e f =
+    let k = length s / 64 * 64 in
+    let d : take (length s - k) (drop k s) ≡ drop k s = take-all (length s - k) (drop k s) (omega (arith, length-drop k s)) in
+    f ∙ rw (d, e) (sym (run-on s (padding n) h))
 
-pub running-start : (s : List ℕ) (n : ℕ) (h : State) → length s % 64 ≡ n % 64 → Running s n h h s
-running-start s n h e = record { whole = e; same = refl }
-
-pub running-turn : {s t : List ℕ} {n : ℕ} {h g f : State} → Running s n h g t → 64 ≤ length t → f ≡ compress (take 64 t) g
-    → Running s n h f (take (length t - 64) (drop 64 t))
-running-turn {s} {t} {n} {h} {g} {f} r k e =
-    let d : take (length t - 64) (drop 64 t) ≡ drop 64 t = take-all (length t - 64) (drop 64 t) (omega (arith, length-drop 64 t)) in
-    let p : (take 64 t ++ drop 64 t) ++ padding n ≡ take 64 t ++ (drop 64 t ++ padding n) = append-assoc (take 64 t) (drop 64 t) (padding n) in
-    let q : run (t ++ padding n) g ≡ run (drop 64 t ++ padding n) (compress (take 64 t) g) =
-    ap (λ (l : List ℕ). run (l ++ padding n) g) (sym (take-append-drop 64 t)) ∙ ap (λ (l : List ℕ). run l g) p
-    ∙ run-block (take 64 t) (drop 64 t ++ padding n) g (length-take-le 64 t k) in
-    record { whole = rw d (omega (arith, length-drop 64 t, r .whole)); same = rw (d, e) (sym q ∙ r .same) }
-
-pub running-done : {s t : List ℕ} {n : ℕ} {h g f : State} → Running s n h g t → f ≡ run (t ++ padding n) g → f ≡ run (s ++ padding n) h
-running-done r e = e ∙ r .same
+-- the digest
+pub digested : (h : State) (n : ℕ) (s : List ℕ) {g : State} {r : List ℕ} → g ≡ run (s ++ padding n) h → r ≡ digest g → r ≡ finished h n s
+unfolding finished
+digested h n s e f = f ∙ ap digest e
 
 -- a whole message, with no block before it
 pub hashed : {r : List ℕ} (s : List ℕ) → r ≡ finished start (0 * 64 + length s) s → r ≡ sha1 s

@@ -1,28 +1,14 @@
 -- Laws of SHA-1's definition that its callers cite: a block in front of a message, and what a block is.
 use mathlib.Core.Path.{_≡_, refl, ap, sym, _∙_}
-use mathlib.Core.List.{List, [], _++_, append-assoc, append-nil}
-use Prim.Native.Nat.{ℕ, suc, _+_, _-_, _/_, _≤_}
+use mathlib.Core.List.{List, _++_, append-assoc}
+use Prim.Native.Nat.{ℕ, _+_, _-_, _≤_}
 use native.Mathlib.Omega.{arith}
-use lib.ListN.{length, take, drop, replicate, length-append, length-replicate, replicate-append-replicate}
-use lib.Seq.{take-at, drop-at, take-append-le, take-append-add, length-take-le}
-use Rattle.sha1.specs.declared.State.{State}
-use Rattle.sha1.specs.Sha1.{compress, blocks, run, padding, digest, finished, sha1, blockOf}
-
-blocks-suc : (n : ℕ) (p : List ℕ) (h : State) → blocks (suc n) p h ≡ blocks n (drop 64 p) (compress (take 64 p) h)
-unfolding blocks
-blocks-suc n p h = refl
-
--- a whole block in front of others
-pub run-block : (b p : List ℕ) (h : State) → length b ≡ 64 → run (b ++ p) h ≡ run p (compress b h)
-unfolding run
-run-block b p h e =
-    let d : length (b ++ p) / 64 ≡ suc (length p / 64) = omega (arith, length-append b p) in
-    rw (d, blocks-suc, drop-at b p 64 e, take-at b p 64 e)
-
--- and alone
-pub run-one : (b : List ℕ) (h : State) → length b ≡ 64 → run b h ≡ compress b h
-unfolding run blocks
-run-one b h e = ap (λ (r : List ℕ). run r h) (sym (append-nil b)) ∙ run-block b [] h e
+use lib.ListN.{length, take, replicate, length-append, length-replicate, replicate-append-replicate}
+use lib.Seq.{take-at, take-append-le, take-append-add, length-take-le}
+use Rattle.compression.specs.declared.State.{State}
+use Rattle.compression.specs.Compression.{compress, run}
+use Rattle.compression.specs.CompressionLaws.{run-block}
+use Rattle.sha1.specs.Sha1.{padding, digest, finished, sha1, blockOf}
 
 -- a whole block in front of the rest of a message
 pub finished-block : (b s : List ℕ) (n : ℕ) (h : State) → length b ≡ 64 → finished h n (b ++ s) ≡ finished (compress b h) n s

@@ -2,7 +2,8 @@
 use mathlib.Core.Path.{_≡_, refl}
 use mathlib.Core.List.{[], _∷_}
 use lib.ListN.{replicate}
-use Rattle.sha1.specs.Sha1.{mixOf, constantOf, nextWord, schedule, round, rounds, compress, blocks, run, countOf, padding, finished, sha1, blockOf}
+use Rattle.compression.specs.Compression.{mixOf, constantOf, nextWord, schedule, round, rounds, compress, blocks, run}
+use Rattle.sha1.specs.Sha1.{countOf, padding, finished, sha1, blockOf}
 use Rattle.hmac.specs.Hmac.{keyBlock, xored, hmacOf}
 
 -- no bytes

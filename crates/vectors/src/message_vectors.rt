@@ -1,5 +1,5 @@
 // RFC 5769's messages: read, checked under their keys and under a key with one bit changed, their addresses and realms.
-use crate::utf8_vectors::hex;
+use crate::reader_vectors::wide;
 use integrity::check_integrity;
 use libc::STDOUT_FILENO;
 use message::Answer;
@@ -16,6 +16,14 @@ use typed::XOR_MAPPED_ADDRESS;
 
 fn put(s: &[u8]) {
     io::write_all(STDOUT_FILENO, s);
+}
+
+fn hex(s: &[u8]) {
+    let mut i = 0;
+    while i < s.len() {
+        io::print_hex(STDOUT_FILENO, wide(s[i]) as u64, 2);
+        i += 1;
+    }
 }
 
 fn number(n: usize) {

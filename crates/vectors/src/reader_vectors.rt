@@ -50,7 +50,7 @@ fn case(name: &[u8], d: &[u8]) {
     io::write_all(STDOUT_FILENO, b"\n");
 }
 
-fn wide(b: u8) -> usize
+pub fn wide(b: u8) -> usize
     ensures { λ r. ⌜ r < 256 ⌝ }
 {
     b as usize

@@ -1,4 +1,4 @@
-use Rattle.sha1.proofs.Steps.{digested}
+use Rattle.sha1.proofs.Padded.{digested}
 use borrow.Author.Needs.{needs}
 use Rattle.sha1.proofs.finish.Statement.{statement}
 use Rattle.sha1.proofs.finish.Tie as tie

@@ -1,0 +1,5 @@
+mod Steps
+mod Words
+mod Twenties
+mod Taken
+mod Determined

@@ -1,0 +1,19 @@
+use Rattle.compression.proofs.Steps.{rounded}
+use borrow.Author.Needs.{needs}
+use Rattle.compression.proofs.round.Statement.{statement}
+use Rattle.compression.proofs.round.Tie as tie
+
+returns : tie.Need-returns
+returns c = search (rounded)
+
+pub round-spec : {M : Type 1} → statement M
+round-spec =
+    tie.close
+    (tie.spec
+    (λ c κs. search needs)
+    (λ c κs. search needs)
+    (λ c κs. search needs)
+    (λ c κs. search needs)
+    (λ c κs. search needs)
+    (λ c κs. search needs)
+    returns)

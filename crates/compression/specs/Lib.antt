@@ -1,0 +1,2 @@
+pub mod Compression
+pub mod CompressionLaws
