@@ -26,7 +26,7 @@ pub xor-odd : (a b : ℕ) → bitXor a b % 2 ≡ (a + b) % 2
 xor-odd a b = omega (arith, step a b)
 
 -- two numbers are equal where their halves and their low digits are
-same : (x y : ℕ) → x / 2 ≡ y / 2 → x % 2 ≡ y % 2 → x ≡ y
+pub same : (x y : ℕ) → x / 2 ≡ y / 2 → x % 2 ≡ y % 2 → x ≡ y
 same x y p q = omega arith
 
 odd-left : (x y c : ℕ) → x % 2 ≡ y % 2 → (x + c) % 2 ≡ (y + c) % 2

@@ -2,4 +2,5 @@ mod Steps
 mod Words
 mod Twenties
 mod Taken
+mod Mixes
 mod Determined

@@ -89,7 +89,7 @@ fn schedule(s: &[u8]) -> [u32; 80]
 fn choice(x: u32, y: u32, z: u32) -> u32
     ensures { λ r. ⌜ r ≡ spec.ch x y z ⌝ }
 {
-    (x & y) ^ (!x & z)
+    z ^ (x & (y ^ z))
 }
 
 fn parity(x: u32, y: u32, z: u32) -> u32

@@ -1,0 +1,11 @@
+use native.Mathlib.Omega.{arith}
+use borrow.Author.Needs.{needs}
+use Rattle.compression.proofs.Mixes.{choice-is}
+use Rattle.compression.proofs.choice.Statement.{statement}
+use Rattle.compression.proofs.choice.Tie as tie
+
+returns : tie.Need-returns
+returns c = choice-is (c .args .x) (c .args .y) (c .args .z) (search needs) (search needs) (search needs)
+
+pub choice-spec : {M : Type 1} → statement M
+choice-spec = tie.close (tie.spec returns)
