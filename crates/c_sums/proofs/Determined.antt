@@ -5,7 +5,7 @@ use mathlib.Core.Bool.{Bool}
 use Rattle.base.specs.Determined.{Determines, by}
 use lib.ListN.{take}
 use Rattle.base.specs.Same.{same}
-use Rattle.crc32.specs.Crc.{bytesFrom, finished, crc32Of}
+use Rattle.crc.specs.Crc.{bytesFrom, finished, crc32Of}
 use Rattle.sha1.specs.Sha1.{sha1}
 use Rattle.hmac.specs.Hmac.{hmacOf}
 use Rattle.utf8.specs.Utf8.{isUtf8}

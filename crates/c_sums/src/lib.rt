@@ -2,7 +2,7 @@
 ghost use mathlib.Core.Path.{_≡_};
 ghost use lib.ListN.{take};
 ghost use Rattle.base.specs.Same.{same};
-ghost use Rattle.crc32.specs.Crc.{bytesFrom, finished, crc32Of};
+ghost use Rattle.crc.specs.Crc.{bytesFrom, finished, crc32Of};
 ghost use Rattle.sha1.specs.Sha1.{sha1};
 ghost use Rattle.hmac.specs.Hmac.{hmacOf};
 ghost use Rattle.utf8.specs.Utf8.{isUtf8};

@@ -1,7 +1,2 @@
-pub mod Walk
-pub mod Multiple
-pub mod Waits
-mod Front
 mod Determined
-mod Multiplied
-mod Halves
+mod Sums

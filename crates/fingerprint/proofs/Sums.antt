@@ -11,8 +11,8 @@ use Rattle.base.specs.Laid.{laid, laid-is}
 use Rattle.base.specs.Lists.{drop-take}
 use Rattle.numbers.specs.Numbers.{be16, two, withLength}
 use Rattle.numbers.specs.NumbersLaws.{four-at}
-use Rattle.crc32.specs.Crc.{bytesFrom, finished, crc32Of}
-use Rattle.crc32.specs.CrcLaws.{bytesFrom-append}
+use Rattle.crc.specs.Crc.{bytesFrom, finished, crc32Of}
+use Rattle.crc.specs.CrcLaws.{bytesFrom-append}
 use Rattle.fingerprint.specs.Fingerprint.{fingerprintAt, printed}
 use Rattle.fingerprint.specs.RegisterLaws.{parts}
 

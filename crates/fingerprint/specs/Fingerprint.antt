@@ -6,7 +6,7 @@ use lib.Bits.{bitXor}
 use lib.Dec.{ltb}
 use Rattle.base.specs.Choice.{pick}
 use Rattle.numbers.specs.Numbers.{withLength}
-use Rattle.crc32.specs.Crc.{crc32Of}
+use Rattle.crc.specs.Crc.{crc32Of}
 
 -- the sum over the bytes before p, with p - 20 + 8 in the length field
 unfoldable pub fingerprintAt : List ℕ → ℕ → ℕ

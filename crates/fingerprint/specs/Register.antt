@@ -3,7 +3,7 @@ use Prim.Native.Nat.{ℕ, _+_, _*_, _/_, _%_, _^_}
 use mathlib.Core.List.{List}
 use lib.ListN.{take}
 use Rattle.numbers.specs.Numbers.{withLength}
-use Rattle.crc32.specs.Crc.{bytesFrom}
+use Rattle.crc.specs.Crc.{bytesFrom}
 
 -- over the bytes before p, with n in the length field
 unfoldable pub register : List ℕ → ℕ → ℕ → ℕ

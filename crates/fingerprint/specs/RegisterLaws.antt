@@ -9,10 +9,10 @@ use lib.Bits.{bitXor, xor-zero-l, xor-lt}
 use Rattle.base.specs.Laid.{laid, laid-is}
 use Rattle.base.specs.Lists.{drop-take}
 use Rattle.numbers.specs.Numbers.{two, withLength}
-use Rattle.crc32.specs.Crc.{bitSteps, bytesFrom, finished, crc32Of}
-use Rattle.crc32.specs.Octets.{octets, word, times}
-use Rattle.crc32.specs.CrcLaws.{bitSteps-shift, octets-add, octets-xor, bytesFrom-append, at-once, patched, low-byte}
-use Rattle.crc32.specs.ProductLaws.{product}
+use Rattle.crc.specs.Crc.{bitSteps, bytesFrom, finished, crc32Of}
+use Rattle.crc.specs.Octets.{octets, word, times}
+use Rattle.crc.specs.CrcLaws.{bitSteps-shift, octets-add, octets-xor, bytesFrom-append, at-once, patched, low-byte}
+use Rattle.crc.specs.ProductLaws.{product}
 use Rattle.fingerprint.specs.Fingerprint.{fingerprintAt}
 use Rattle.fingerprint.specs.Register.{register, field}
 

@@ -12,8 +12,8 @@ use Rattle.base.specs.Bytes.{Bytes, take-bytes, drop-bytes}
 use Rattle.base.specs.Xor.{xor-cancel}
 use Rattle.numbers.specs.Numbers.{be16, four, withLength}
 use Rattle.numbers.specs.NumbersLaws.{four-once}
-use Rattle.crc32.specs.Crc.{crc32Of}
-use Rattle.crc32.specs.BurstLaws.{burst-at}
+use Rattle.crc.specs.Crc.{crc32Of}
+use Rattle.crc.specs.BurstLaws.{burst-at}
 use Rattle.fingerprint.specs.Fingerprint.{fingerprintAt}
 
 -- d ends in a right FINGERPRINT that starts at p, and its length field says so

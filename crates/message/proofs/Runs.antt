@@ -8,10 +8,10 @@ use lib.ListN.{length, getD, take, drop, length-take, length-drop}
 use lib.Bits.{bitXor, xor-lt}
 use Rattle.numbers.specs.Numbers.{two, withLength}
 use Rattle.numbers.specs.NumbersLaws.{four-at}
-use Rattle.crc32.specs.Crc.{bitStep, bitSteps, bytesFrom, finished}
-use Rattle.crc32.specs.Octets.{octets, word, times}
-use Rattle.crc32.specs.CrcLaws.{bytesFrom-append, octets-add, octets-xor, octets-lt, at-once, apart, low-byte}
-use Rattle.crc32.specs.Rows.{Steps, fourBy, eightBy}
+use Rattle.crc.specs.Crc.{bitStep, bitSteps, bytesFrom, finished}
+use Rattle.crc.specs.Octets.{octets, word, times}
+use Rattle.crc.specs.CrcLaws.{bytesFrom-append, octets-add, octets-xor, octets-lt, at-once, apart, low-byte}
+use Rattle.byte_tables.specs.Tables.{Steps, fourBy, eightBy}
 use Rattle.fingerprint.specs.Fingerprint.{printed}
 use Rattle.fingerprint.specs.Register.{register, field}
 use Rattle.fingerprint.specs.RegisterLaws.{parts, register-on, register-other, print-of}

@@ -3,7 +3,7 @@ use Prim.Native.Nat.{ℕ, _≤_, _<_}
 use mathlib.Core.List.{List}
 use mathlib.Core.Path.{_≡_}
 use lib.Bits.{bitXor}
-use Rattle.crc32.specs.Octets.{octets, times}
+use Rattle.crc.specs.Octets.{octets, times}
 use Rattle.fingerprint.specs.Register.{register, field}
 use Rattle.message.specs.declared.Running.{Running}
 

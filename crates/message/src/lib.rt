@@ -5,8 +5,8 @@ ghost use lib.ListN.{length, take, drop};
 ghost use Rattle.attribute.specs.Scan.{scanned};
 ghost use Rattle.attribute.specs.ScanLaws.{Scanning};
 ghost use Rattle.rfc5389.specs.Rows.{rfc5389};
-ghost use Rattle.crc32.specs.Octets.{word};
-ghost use Rattle.crc32.specs.Rows.{Steps};
+ghost use Rattle.crc.specs.Octets.{word};
+ghost use Rattle.byte_tables.specs.Tables.{Steps};
 ghost use Rattle.fingerprint.specs.Fingerprint.{printed};
 ghost use Rattle.fingerprint.specs.Register.{field};
 ghost use Rattle.message.specs.Front.{pastOf};
@@ -219,8 +219,8 @@ fn words(t: &[u32], d: &[u8], run: Running, p: usize) -> Running
     let mut sum = run.sum;
     let mut power = run.power;
     while 4 <= p - at {
-        sum = crc32::four_by(t, sum ^ low_word(d, at));
-        power = crc32::four_by(t, power);
+        sum = byte_tables::four_by(t, sum ^ low_word(d, at));
+        power = byte_tables::four_by(t, power);
         at += 4;
     }
     Running {
@@ -237,13 +237,13 @@ fn two_words(t: &[u32], d: &[u8], run: Running, p: usize) -> Running
     ensures { λ r. ⌜ Ran (now (d .entry)) r p × (p ≤ r .upto) ⌝ }
 {
     let at = run.upto;
-    let half = crc32::four_by(t, run.sum ^ low_word(d, at));
-    let sum = crc32::four_by(t, half ^ low_word(d, at + 4));
+    let half = byte_tables::four_by(t, run.sum ^ low_word(d, at));
+    let sum = byte_tables::four_by(t, half ^ low_word(d, at + 4));
     Running {
         upto: p,
         length: run.length,
         sum,
-        power: crc32::four_by(t, crc32::four_by(t, run.power)),
+        power: byte_tables::four_by(t, byte_tables::four_by(t, run.power)),
     }
 }
 
@@ -256,13 +256,13 @@ fn adjacent(t: &[u32], d: &[u8], run: Running, p: usize) -> Running
         return two_words(t, d, run, p);
     }
     let at = run.upto;
-    let first = crc32::eight_by(t, run.sum ^ low_word(d, at));
-    let second = crc32::four_by(t, low_word(d, at + 4));
+    let first = byte_tables::eight_by(t, run.sum ^ low_word(d, at));
+    let second = byte_tables::four_by(t, low_word(d, at + 4));
     Running {
         upto: p,
         length: run.length,
         sum: first ^ second,
-        power: crc32::eight_by(t, run.power),
+        power: byte_tables::eight_by(t, run.power),
     }
 }
 
@@ -282,7 +282,7 @@ fn relength(run: Running, n: u16) -> Running
     Running {
         upto: run.upto,
         length: n,
-        sum: run.sum ^ crc32::product(change, run.power),
+        sum: run.sum ^ crc::product(change, run.power),
         power: run.power,
     }
 }
@@ -430,7 +430,7 @@ fn printed_few(d: &[u8], front: Front) -> Scan
     requires { ⌜ Scanning (printFaults (now d)) (now d) (front .at) (front .count) ⌝ }
     ensures { λ r. ⌜ r ≡ scanned (printFaults (now (d .entry))) (now (d .entry)) ⌝ }
 {
-    let t = crc32::tables::EIGHT_ROWS;
+    let t = folds::tables::EIGHT_ROWS;
     prints(&t, d, front.at, front.count)
 }
 
@@ -446,7 +446,7 @@ fn printed_from(d: &[u8], front: Front) -> Scan
     if left <= 2048 {
         return printed_few(d, front);
     }
-    let t = crc32::byte_rows();
+    let t = byte_tables::byte_rows();
     prints(&t, d, front.at, front.count)
 }
 

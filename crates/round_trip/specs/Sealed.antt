@@ -27,7 +27,7 @@ use Rattle.attribute.specs.RoundTrip as attributes
 use Rattle.attribute.specs.Scan.{scan, scanned}
 use Rattle.attribute.specs.declared.Scan.{Scan}
 use Rattle.attribute.specs.declared.Scan.the-variants.{Passed, Fault}
-use Rattle.crc32.specs.Crc.{crc32Of}
+use Rattle.crc.specs.Crc.{crc32Of}
 use Rattle.fingerprint.specs.Fingerprint.{fingerprintAt}
 use Rattle.hmac.specs.Hmac.{hmacOf}
 use Rattle.hmac.specs.HmacLaws.{length-hmac}

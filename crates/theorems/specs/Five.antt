@@ -9,7 +9,7 @@ use Rattle.base.specs.Same.{same}
 use Rattle.numbers.specs.Numbers.{be16, withLength}
 use Rattle.wire.specs.Cookie.{cookieAt}
 use Rattle.header.specs.Header.{frontFault, headerFault}
-use Rattle.crc32.specs.Crc.{bitStep, bitSteps, byteStep, bytesFrom, crc32Of}
+use Rattle.crc.specs.Crc.{bitStep, bitSteps, byteStep, bytesFrom, crc32Of}
 use Rattle.attribute.specs.Attribute.{parse}
 use Rattle.attribute.specs.Scan.{scan, scanned}
 use Rattle.fingerprint.specs.Fingerprint.{fingerprintAt}

@@ -7,9 +7,9 @@ use lib.ListN.{take}
 use lib.Bits.{bitXor, xor-lt}
 use Rattle.base.specs.Bytes.{Bytes, take-bytes}
 use Rattle.numbers.specs.Numbers.{four, withLength}
-use Rattle.crc32.specs.Crc.{bitSteps, byteStep, bytesFrom, crc32Of}
-use Rattle.crc32.specs.Octets.{octets}
-use Rattle.crc32.specs.CrcLaws.{octets-lt}
+use Rattle.crc.specs.Crc.{bitSteps, byteStep, bytesFrom, crc32Of}
+use Rattle.crc.specs.Octets.{octets}
+use Rattle.crc.specs.CrcLaws.{octets-lt}
 use Rattle.wire.specs.declared.method.Method.{Method}
 use Rattle.wire.specs.declared.types.MessageClass.{MessageClass}
 use Rattle.attribute.specs.Attribute.{Attr}

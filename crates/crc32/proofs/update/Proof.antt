@@ -1,25 +1,14 @@
--- Both tables pass the test of their rule.
-use Rattle.crc32.specs.Crc.{bitStep, bitSteps}
-use Rattle.crc32.specs.RowsLaws.{rows}
+-- The small table passes the test of its rule.
+use mathlib.Core.Path.{_∙_}
+use Rattle.crc.specs.Crc.{bitStep, bitSteps}
+use Rattle.nibbles.specs.RowsLaws.{rows, bytes-halves}
 use borrow.Author.Needs.{needs}
 use Rattle.crc32.proofs.update.Statement.{statement}
 use Rattle.crc32.proofs.update.Tie as tie
 
-bytes-requires : tie.Need-bytes-requires
+returns : tie.Need-returns
 unfolding bitSteps bitStep
-bytes-requires c κs = (rows _ tt, search needs)
-
-words-requires : tie.Need-words-requires
-unfolding bitSteps bitStep
-words-requires c κs = (rows _ tt, search needs)
+returns c = c .bytes .ensures ∙ bytes-halves _ (rows _ tt) (search needs) _ _
 
 pub update-spec : {M : Type 1} → statement M
-update-spec =
-    tie.close
-    (tie.spec
-    (λ c. search needs)
-    bytes-requires
-    (λ c. search needs)
-    words-requires
-    (λ c. search needs)
-    (λ c. search needs))
+update-spec = tie.close (tie.spec (λ c. search needs) (λ c κs. search needs) (λ c κs. search needs) returns (λ c. search needs))

@@ -1,6 +1,7 @@
 -- The table of half bytes passes the test of its rule.
-use Rattle.crc32.specs.Crc.{bitStep, bitSteps}
-use Rattle.crc32.specs.RowsLaws.{rows, rows-steps}
+use Rattle.crc.specs.Crc.{bitStep, bitSteps}
+use Rattle.nibbles.specs.RowsLaws.{rows}
+use Rattle.byte_tables.specs.TablesLaws.{rows-steps}
 use borrow.Author.Needs.{needs}
 use Rattle.message.proofs.printed_few.Statement.{statement}
 use Rattle.message.proofs.printed_few.Tie as tie

@@ -1,4 +1,4 @@
-use Rattle.crc32.specs.RowsLaws.{byte-steps}
+use Rattle.byte_tables.specs.TablesLaws.{byte-steps}
 use borrow.Author.Needs.{needs}
 use Rattle.message.proofs.printed_from.Statement.{statement}
 use Rattle.message.proofs.printed_from.Tie as tie

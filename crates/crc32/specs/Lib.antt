@@ -1,9 +1,0 @@
-pub mod Crc
-pub mod Octets
-pub mod CrcLaws
-pub mod ProductLaws
-pub mod BurstLaws
-pub mod Rows
-pub mod RowsLaws
-pub mod Waits
-pub mod Taken
