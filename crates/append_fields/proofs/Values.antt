@@ -1,11 +1,14 @@
 -- The bytes of the values, and what the calls return and leave in the buffer.
 use Prim.Native.Nat.{ℕ, _+_, _-_, _/_, _%_, _≤_, _<_}
 use mathlib.Core.List.{List, [], _∷_, _++_, append-nil}
+use mathlib.Core.Bool.{Bool, true, false, _||_, false≢true}
 use mathlib.Core.Path.{_≡_, refl, sym, ap, ap₂, _∙_}
 use native.Mathlib.Omega.{arith}
+use native.Mathlib.Decide.{decLe}
 use borrow.Author.Tests.{lt-ltb, le-ltb}
 use lib.ListN.{length, take, drop, set, replicate, drop-of-length-le}
 use lib.Seq.{take-at}
+use lib.Dec.{ltb}
 use Rattle.base.specs.Laid.{laid, laid-is}
 use Rattle.numbers.specs.Numbers.{two, put}
 use Rattle.numbers.specs.PutLaws.{put-laid, put-behind}
@@ -49,6 +52,19 @@ address-bytes f p ip {b1} {b2} l e g =
     let z : drop (2 + length (two p ++ ip)) v ≡ [] = drop-of-length-le v {i = 2 + length (two p ++ ip)} (omega arith) in
     b ∙ laid-is v 2 (two p ++ ip) (omega arith) ∙ ap (λ (x : List ℕ). 0 ∷ f ∷ (two p ++ ip) ++ x) z ∙ append-nil (0 ∷ f ∷ two p ++ ip)
 
+pub form-bytes : (k : AddressKind) (addr : SocketAddr) (id : TransactionId) {a : SocketAddr} {f : ℕ} {v : List ℕ} → a ≡ given k addr id
+    → f ≡ familyNumber (a .family) → v ≡ 0 ∷ f ∷ two (a .port) ++ a .ip
+    → v ≡ 0 ∷ familyNumber (given k addr id .family) ∷ two (given k addr id .port) ++ given k addr id .ip
+form-bytes k addr id {a} g fe ve =
+    ve ∙ ap (λ (y : ℕ). 0 ∷ y ∷ two (a .port) ++ a .ip) fe ∙ ap (λ (x : SocketAddr). 0 ∷ familyNumber (x .family) ∷ two (x .port) ++ x .ip) g
+
+-- the XOR form is of the same family
+same-family : (k : AddressKind) (a : SocketAddr) (id : TransactionId) → given k a id .family ≡ a .family
+unfolding given addrXor
+same-family MappedAddress a id = refl
+same-family XorMappedAddress a id = refl
+same-family AlternateServer a id = refl
+
 pub ip-small : (f : Family) {x : ℕ} → x ≡ ipSize f → x ≤ 16
 ip-small Ipv4 e = omega arith
 ip-small Ipv6 e = omega arith
@@ -62,14 +78,14 @@ part a = go (a .family)
     go Ipv4 = refl
     go Ipv6 = refl
 
-module _ (d : List ℕ) (k : AddressKind) (addr : SocketAddr) {h : Header} {a : SocketAddr} {f x n : ℕ} {v : List ℕ}
-    (e : h ≡ frontOf d) (g : a ≡ given k addr (h .id)) (fe : f ≡ familyNumber (a .family)) (ve : v ≡ 0 ∷ f ∷ two (a .port) ++ a .ip)
-    (xe : x ≡ ipSize (a .family)) (ne : n ≡ addressNumber k) where
+module _ (d : List ℕ) (k : AddressKind) (addr : SocketAddr) {h : Header} {x n : ℕ} {v : List ℕ} (e : h ≡ frontOf d)
+    (ve : v ≡ 0 ∷ familyNumber (given k addr (h .id) .family) ∷ two (given k addr (h .id) .port) ++ given k addr (h .id) .ip)
+    (xe : x ≡ ipSize (addr .family)) (ne : n ≡ addressNumber k) where
   value : take (4 + x - 0) (drop 0 v) ≡ addressValue (given k addr (frontOf d .id))
   value =
-      let m : 4 + x - 0 ≡ 4 + ipSize (a .family) = omega arith in
-      ap₂ {C = List ℕ} (λ i w. take i w) m (ve ∙ ap (λ (y : ℕ). 0 ∷ y ∷ two (a .port) ++ a .ip) fe) ∙ part a
-      ∙ ap addressValue (g ∙ ap (λ (y : Header). given k addr (y .id)) e)
+      let s : x ≡ ipSize (given k addr (h .id) .family) = xe ∙ ap ipSize (sym (same-family k addr (h .id))) in
+      let m : 4 + x - 0 ≡ 4 + ipSize (given k addr (h .id) .family) = omega arith in
+      ap₂ {C = List ℕ} (λ i w. take i w) m ve ∙ part (given k addr (h .id)) ∙ ap (λ (y : Header). addressValue (given k addr (y .id))) e
 
   pub address-answer : {r : Written} → r ≡ answer d 0 (typed n (take (4 + x - 0) (drop 0 v)))
       → r ≡ answer d 0 (typed (addressNumber k) (addressValue (given k addr (frontOf d .id))))
@@ -87,17 +103,56 @@ code-bytes c s {m} l e =
     let b : m ≡ take 4 v ++ s ++ drop (4 + length s) v = e ∙ put-laid v 4 s (omega arith) ∙ laid-is v 4 s (omega arith) in
     ap (take (4 + length s)) b ∙ take-at (take 4 v ++ s) (drop (4 + length s) v) (4 + length s) (omega arith)
 
+-- what `outside` tests
+abbrev out : ℕ → ℕ → Bool
+out c n = ltb c 300 || ltb 699 c || ltb 127 n
+
+module _ (c n : ℕ) where
+  pub too-low : c < 300 → true ≡ out c n
+  too-low h = rw (lt-ltb c 300 h)
+
+  pub too-high : 300 ≤ c → 699 < c → true ≡ out c n
+  too-high l h = rw (le-ltb c 300 l, lt-ltb 699 c h)
+
+  pub in-range : 300 ≤ c → c ≤ 699 → ltb 127 n ≡ out c n
+  in-range l h = rw (le-ltb c 300 l, le-ltb 699 c h)
+
+  module _ {t : Bool} (e : t ≡ out c n) (f : t ≡ false) where
+    low-end : 300 ≤ c
+    low-end = by (decLe 300 c)
+      where
+        by : Dec (300 ≤ c) → 300 ≤ c
+        by (yes l) = l
+        by (no l) = absurd (false≢true (sym f ∙ e ∙ sym (too-low (omega arith))))
+
+    high-end : c ≤ 699
+    high-end = by (decLe c 699)
+      where
+        by : Dec (c ≤ 699) → c ≤ 699
+        by (yes l) = l
+        by (no l) = absurd (false≢true (sym f ∙ e ∙ sym (too-high low-end (omega arith))))
+
+    pub below-700 : c < 700
+    below-700 = omega (arith, high-end)
+
+    pub fits : n ≤ 127
+    fits = by (decLe n 127)
+      where
+        by : Dec (n ≤ 127) → n ≤ 127
+        by (yes l) = l
+        by (no l) = absurd (false≢true (sym f ∙ e ∙ sym (in-range low-end high-end) ∙ lt-ltb 127 n (omega arith)))
+
 -- an ERROR-CODE of more than 131 bytes
 too-long : (v : List ℕ) → 131 < length v → fault rfc5389 0x0009 v ≡ 11
 unfolding fault look sizeFault
 too-long v h = simp (le-ltb (length v) 4 (omega arith), lt-ltb 131 (length v) h)
 
 module _ (c : ℕ) (s : List ℕ) where
-  pub low : c < 300 → codeRefusal rfc5389 c s ≡ 23
+  low : c < 300 → codeRefusal rfc5389 c s ≡ 23
   unfolding codeRefusal
   low l = simp (lt-ltb c 300 l)
 
-  pub high : 300 ≤ c → 699 < c → codeRefusal rfc5389 c s ≡ 23
+  high : 300 ≤ c → 699 < c → codeRefusal rfc5389 c s ≡ 23
   unfolding codeRefusal
   high l h = simp (le-ltb c 300 l, lt-ltb 699 c h)
 
@@ -105,31 +160,53 @@ module _ (c : ℕ) (s : List ℕ) where
   unfolding codeRefusal
   by-value l h = simp (le-ltb c 300 l, le-ltb 699 c h)
 
-  pub long : 300 ≤ c → c ≤ 699 → 127 < length s → codeRefusal rfc5389 c s ≡ 23
+  long : 300 ≤ c → c ≤ 699 → 127 < length s → codeRefusal rfc5389 c s ≡ 23
   unfolding refusal codeValue
   long l h n = by-value l h ∙ rw (too-long (codeValue c s) (omega arith))
 
-  -- a code or a phrase that is refused, whatever stands for the value
-  module _ (d : List ℕ) (g : codeRefusal rfc5389 c s ≡ 23) (v : List ℕ) where
+  refused : out c (length s) ≡ true → codeRefusal rfc5389 c s ≡ 23
+  refused e = by (decLe 300 c) (decLe c 699) (decLe (length s) 127)
+    where
+      by : Dec (300 ≤ c) → Dec (c ≤ 699) → Dec (length s ≤ 127) → codeRefusal rfc5389 c s ≡ 23
+      by (no l) _ _ = low (omega arith)
+      by (yes l) (no h) _ = high l (omega arith)
+      by (yes l) (yes h) (no n) = long l h (omega arith)
+      by (yes l) (yes h) (yes n) = absurd (false≢true (sym (le-ltb 127 (length s) n) ∙ in-range c (length s) l h ∙ e))
+
+  -- a code or a phrase that is out of range, whatever stands for the value
+  module _ (d : List ℕ) {t : Bool} (o : t ≡ out c (length s)) (h : t ≡ true) (v : List ℕ) where
     pub stops : {r : Written} → r ≡ answer d 23 (typed 0x0009 v) → r ≡ answer d (codeRefusal rfc5389 c s) (typed 0x0009 (codeValue c s))
-    stops e = rw g (e ∙ answer-wrong d 23 (λ z. omega arith) (typed 0x0009 v) (typed 0x0009 (codeValue c s)))
+    stops e = rw (refused (sym o ∙ h)) (e ∙ answer-wrong d 23 (λ z. omega arith) (typed 0x0009 v) (typed 0x0009 (codeValue c s)))
 
     pub keeps : {b : List ℕ} → b ≡ appended d 23 (typed 0x0009 v) → b ≡ appended d (codeRefusal rfc5389 c s) (typed 0x0009 (codeValue c s))
     keeps e =
-        rw g
+        rw (refused (sym o ∙ h))
         (e ∙ appended-wrong d 23 (λ z. omega arith) (typed 0x0009 v) ∙ sym (appended-wrong d 23 (λ z. omega arith) (typed 0x0009 (codeValue c s))))
 
   -- one that is judged by its bytes
-  module _ (d : List ℕ) (l : 300 ≤ c) (h : c ≤ 699) (m : List ℕ) {w : ℕ} (e : take (4 + length s) m ≡ codeValue c s)
-      (f : w ≡ refusal rfc5389 0x0009 (take (4 + length s - 0) (drop 0 m))) where
+  module _ (d : List ℕ) {t : Bool} (o : t ≡ out c (length s)) (f : t ≡ false) (m : List ℕ) (e : take (4 + length s) m ≡ codeValue c s) where
     bytes : take (4 + length s - 0) (drop 0 m) ≡ codeValue c s
     bytes = let z : 4 + length s - 0 ≡ 4 + length s = omega arith in ap (λ (i : ℕ). take i m) z ∙ e
 
-    wrong : w ≡ codeRefusal rfc5389 c s
-    wrong = f ∙ ap (refusal rfc5389 0x0009) bytes ∙ sym (by-value l h)
+    wrong : refusal rfc5389 0x0009 (codeValue c s) ≡ codeRefusal rfc5389 c s
+    wrong = sym (by-value (low-end c (length s) o f) (high-end c (length s) o f))
 
-    pub code-answer : {r : Written} → r ≡ answer d w (typed 0x0009 (take (4 + length s - 0) (drop 0 m))) → r ≡ answer d (codeRefusal rfc5389 c s) (typed 0x0009 (codeValue c s))
-    code-answer p = p ∙ ap₂ (λ (y : ℕ) (x : List ℕ). answer d y (typed 0x0009 x)) wrong bytes
+    pub code-answer : {r : Written} → r ≡ answer d (refusal rfc5389 0x0009 (take (4 + length s - 0) (drop 0 m))) (typed 0x0009 (take (4 + length s - 0) (drop 0 m)))
+        → r ≡ answer d (codeRefusal rfc5389 c s) (typed 0x0009 (codeValue c s))
+    code-answer p =
+        p ∙ ap (λ (x : List ℕ). answer d (refusal rfc5389 0x0009 x) (typed 0x0009 x)) bytes
+        ∙ ap (λ (y : ℕ). answer d y (typed 0x0009 (codeValue c s))) wrong
 
-    pub code-buffer : {b : List ℕ} → b ≡ appended d w (typed 0x0009 (take (4 + length s - 0) (drop 0 m))) → b ≡ appended d (codeRefusal rfc5389 c s) (typed 0x0009 (codeValue c s))
-    code-buffer p = p ∙ ap₂ (λ (y : ℕ) (x : List ℕ). appended d y (typed 0x0009 x)) wrong bytes
+    pub code-buffer : {b : List ℕ} → b ≡ appended d (refusal rfc5389 0x0009 (take (4 + length s - 0) (drop 0 m))) (typed 0x0009 (take (4 + length s - 0) (drop 0 m)))
+        → b ≡ appended d (codeRefusal rfc5389 c s) (typed 0x0009 (codeValue c s))
+    code-buffer p =
+        p ∙ ap (λ (x : List ℕ). appended d (refusal rfc5389 0x0009 x) (typed 0x0009 x)) bytes
+        ∙ ap (λ (y : ℕ). appended d y (typed 0x0009 (codeValue c s))) wrong
+
+-- the bytes of an ERROR-CODE with what the list of types says of them
+module _ (d v : List ℕ) {w : ℕ} (e : w ≡ refusal rfc5389 0x0009 v) where
+  pub judged-answer : {r : Written} → r ≡ answer d w (typed 0x0009 v) → r ≡ answer d (refusal rfc5389 0x0009 v) (typed 0x0009 v)
+  judged-answer p = p ∙ ap (λ (y : ℕ). answer d y (typed 0x0009 v)) e
+
+  pub judged-buffer : {b : List ℕ} → b ≡ appended d w (typed 0x0009 v) → b ≡ appended d (refusal rfc5389 0x0009 v) (typed 0x0009 v)
+  judged-buffer p = p ∙ ap (λ (y : ℕ). appended d y (typed 0x0009 v)) e

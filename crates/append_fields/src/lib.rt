@@ -1,13 +1,16 @@
 // Typed append of an address, and of an error code with its phrase.
 ghost use mathlib.Core.Path.{_≡_};
 ghost use mathlib.Core.List.{_∷_, _++_};
+ghost use mathlib.Core.Bool.{_||_};
 ghost use Prim.Native.Nat.{_+_, _<_, _≤_};
 ghost use lib.ListN.{length, take};
+ghost use lib.Dec.{ltb};
 ghost use Rattle.numbers.specs.Numbers.{two};
 ghost use Rattle.header.specs.Header.{frontOf};
+ghost use Rattle.net.specs.Net.{familyNumber};
 ghost use Rattle.rfc5389.specs.Rows.{rfc5389};
 ghost use Rattle.append.specs.Append.{answer, appended};
-ghost use Rattle.append_typed.specs.Typed.{typed};
+ghost use Rattle.append_typed.specs.Typed.{typed, refusal};
 ghost use Rattle.append_fields.specs.Fields.{addressNumber, addressValue, given, codeValue, codeRefusal};
 use append_typed::append_value;
 use append_typed::refusal_of;
@@ -59,6 +62,16 @@ fn address_bytes(family: u8, port: u16, ip: [u8; 16]) -> [u8; 20]
     v
 }
 
+// Those of its form.
+fn form_bytes(kind: AddressKind, addr: SocketAddr, id: TransactionId) -> [u8; 20]
+    ensures { λ r. ⌜ r ≡ 0 ∷ familyNumber (given kind addr id .family) ∷ two (given kind addr id .port) ++ given kind addr id .ip ⌝ }
+{
+    let a = form_of(kind, addr, id);
+    let family = a.family;
+    let ip = a.ip;
+    address_bytes(family.as_u8(), a.port, ip)
+}
+
 // Appends MAPPED-ADDRESS, XOR-MAPPED-ADDRESS or ALTERNATE-SERVER. The address is given plain; the XOR form takes the ID of the message at the front.
 pub fn append_address(buf: &mut [u8], kind: AddressKind, addr: SocketAddr) -> Written
     ensures { λ r. ⌜ (r ≡ answer (now (buf .entry)) 0 (typed (addressNumber kind) (addressValue (given kind addr (frontOf (now (buf .entry)) .id)))))
@@ -66,11 +79,8 @@ pub fn append_address(buf: &mut [u8], kind: AddressKind, addr: SocketAddr) -> Wr
 {
     let h = header::front_of(buf);
     let id = h.id;
-    let a = form_of(kind, addr, id);
-    let family = a.family;
-    let port = a.port;
-    let ip = a.ip;
-    let v = address_bytes(family.as_u8(), port, ip);
+    let v = form_bytes(kind, addr, id);
+    let family = addr.family;
     let n = 4 + family.ip_size();
     append_value(buf, 0, kind.as_u16(), &v[0..n])
 }
@@ -87,23 +97,37 @@ fn code_bytes(code: u16, phrase: &[u8]) -> [u8; 131]
     v
 }
 
+// Whether a code or the size of a phrase is out of range.
+fn outside(code: u16, n: usize) -> bool
+    ensures { λ r. ⌜ r ≡ (ltb code 300 || ltb 699 code || ltb 127 n) ⌝ }
+{
+    if code < 300 {
+        return true;
+    }
+    if 699 < code {
+        return true;
+    }
+    127 < n
+}
+
+// Appends the bytes of an ERROR-CODE, judged by the list of types.
+fn append_code(buf: &mut [u8], v: &[u8]) -> Written
+    ensures { λ r. ⌜ (r ≡ answer (now (buf .entry)) (refusal rfc5389 0x0009 (now (v .entry))) (typed 0x0009 (now (v .entry))))
+        × (now (buf .exit) ≡ appended (now (buf .entry)) (refusal rfc5389 0x0009 (now (v .entry))) (typed 0x0009 (now (v .entry)))) ⌝ }
+{
+    let wrong = refusal_of(0x0009, v);
+    append_value(buf, wrong, 0x0009, v)
+}
+
 // Appends ERROR-CODE.
 pub fn append_error_code(buf: &mut [u8], code: u16, phrase: &[u8]) -> Written
     ensures { λ r. ⌜ (r ≡ answer (now (buf .entry)) (codeRefusal rfc5389 code (now (phrase .entry))) (typed 0x0009 (codeValue code (now (phrase .entry)))))
         × (now (buf .exit) ≡ appended (now (buf .entry)) (codeRefusal rfc5389 code (now (phrase .entry))) (typed 0x0009 (codeValue code (now (phrase .entry))))) ⌝ }
 {
-    if code < 300 {
-        return append_value(buf, 23, 0x0009, b"");
-    }
-    if 699 < code {
-        return append_value(buf, 23, 0x0009, b"");
-    }
     let n = phrase.len();
-    if 127 < n {
-        return append_value(buf, 23, 0x0009, b"");
+    if outside(code, n) {
+        return append_value(buf, 23, 0x0009, phrase);
     }
     let v = code_bytes(code, phrase);
-    let e = 4 + n;
-    let wrong = refusal_of(0x0009, &v[0..e]);
-    append_value(buf, wrong, 0x0009, &v[0..e])
+    append_code(buf, &v[0..4 + n])
 }

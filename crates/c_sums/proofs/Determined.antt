@@ -8,8 +8,8 @@ use Rattle.base.specs.Same.{same}
 use Rattle.crc.specs.Crc.{bytesFrom, finished, crc32Of}
 use Rattle.sha1.specs.Sha1.{sha1}
 use Rattle.hmac.specs.Hmac.{hmacOf}
-use Rattle.utf8.specs.Utf8.{isUtf8}
-use Rattle.utf8.specs.Points.{points}
+use Rattle.unicode.specs.Utf8.{isUtf8}
+use Rattle.unicode.specs.Points.{points}
 use Rattle.numbers.specs.Numbers.{withLength}
 use Rattle.c_sums.specs.declared.Digest.{Digest}
 use Rattle.c_sums.proofs.cratehoist_crc32.Kinds as crc32-kinds

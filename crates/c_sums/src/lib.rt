@@ -5,8 +5,8 @@ ghost use Rattle.base.specs.Same.{same};
 ghost use Rattle.crc.specs.Crc.{bytesFrom, finished, crc32Of};
 ghost use Rattle.sha1.specs.Sha1.{sha1};
 ghost use Rattle.hmac.specs.Hmac.{hmacOf};
-ghost use Rattle.utf8.specs.Utf8.{isUtf8};
-ghost use Rattle.utf8.specs.Points.{points};
+ghost use Rattle.unicode.specs.Utf8.{isUtf8};
+ghost use Rattle.unicode.specs.Points.{points};
 ghost use Rattle.numbers.specs.Numbers.{withLength};
 
 #[repr(C)]

@@ -1,10 +1,10 @@
 -- A name at the front of its bytes, what has no name, and the names of classes.
-use Prim.Native.Nat.{ℕ, _<_, _≤_}
+use Prim.Native.Nat.{ℕ, _-_, _≤_}
 use mathlib.Core.List.{List, []}
 use mathlib.Core.Path.{_≡_}
 use native.Mathlib.Omega.{arith}
 use borrow.Author.Tests.{eq-eqb, ne-eqb}
-use lib.ListN.{length, replicate}
+use lib.ListN.{length, take, drop, replicate, length-take, length-drop}
 use Rattle.numbers.specs.Numbers.{put}
 use Rattle.wire.specs.declared.types.MessageClass.{MessageClass}
 use Rattle.wire.specs.declared.types.MessageClass.the-variants.{Request, Indication, SuccessResponse, ErrorResponse}
@@ -12,9 +12,10 @@ use Rattle.names.specs.Ascii.{ascii}
 use Rattle.names.specs.Names.{className, named, attributeName, codeName, numberName, methodName}
 use Rattle.names.specs.declared.Name.{Name}
 
-pub at-front : (s : List ℕ) {b : List ℕ} → b ≡ put (replicate {A = ℕ} 32 0) 0 s → record { text = b; size = length s } ≡ named s
+pub at-front : (s : List ℕ) (a z : ℕ) {b : List ℕ} → a ≤ z → z ≤ length s → b ≡ put (replicate {A = ℕ} 32 0) 0 (take (z - a) (drop a s))
+    → record { text = b; size = z - a } ≡ named (take (z - a) (drop a s))
 unfolding named
-at-front s e = rw e
+at-front s a z h l e = let n : length (take (z - a) (drop a s)) ≡ z - a = simp (length-take, length-drop) (omega arith) in rw (e, n)
 
 module _ {n : ℕ} {r : Name} (e : r ≡ named []) where
   pub no-attribute : (n ≡ 1 → ⊥) → (n ≡ 6 → ⊥) → (n ≡ 8 → ⊥) → (n ≡ 9 → ⊥) → (n ≡ 10 → ⊥) → (n ≡ 20 → ⊥) → (n ≡ 21 → ⊥) → (n ≡ 32 → ⊥) → (n ≡ 32802 → ⊥) → (n ≡ 32803 → ⊥) → (n ≡ 32808 → ⊥) → r ≡ attributeName n
@@ -25,21 +26,9 @@ module _ {n : ℕ} {r : Name} (e : r ≡ named []) where
   unfolding codeName
   no-code h0 h1 h2 h3 h4 h5 = simp (ne-eqb n 300 h0, ne-eqb n 400 h1, ne-eqb n 401 h2, ne-eqb n 420 h3, ne-eqb n 438 h4, ne-eqb n 500 h5) e
 
-  no-number : (n ≡ 0 → ⊥) → (n ≡ 1 → ⊥) → (n ≡ 2 → ⊥) → (n ≡ 3 → ⊥) → (n ≡ 4 → ⊥) → (n ≡ 10 → ⊥) → (n ≡ 11 → ⊥) → (n ≡ 12 → ⊥) → (n ≡ 13 → ⊥) → (n ≡ 14 → ⊥) → (n ≡ 15 → ⊥) → (n ≡ 16 → ⊥) → (n ≡ 31 → ⊥) → (n ≡ 32 → ⊥) → (n ≡ 21 → ⊥) → (n ≡ 22 → ⊥) → (n ≡ 23 → ⊥) → (n ≡ 24 → ⊥) → (n ≡ 25 → ⊥) → (n ≡ 26 → ⊥) → r ≡ numberName n
+  pub no-number : (n ≡ 0 → ⊥) → (n ≡ 1 → ⊥) → (n ≡ 2 → ⊥) → (n ≡ 3 → ⊥) → (n ≡ 4 → ⊥) → (n ≡ 10 → ⊥) → (n ≡ 11 → ⊥) → (n ≡ 12 → ⊥) → (n ≡ 13 → ⊥) → (n ≡ 14 → ⊥) → (n ≡ 15 → ⊥) → (n ≡ 16 → ⊥) → (n ≡ 31 → ⊥) → (n ≡ 32 → ⊥) → (n ≡ 21 → ⊥) → (n ≡ 22 → ⊥) → (n ≡ 23 → ⊥) → (n ≡ 24 → ⊥) → (n ≡ 25 → ⊥) → (n ≡ 26 → ⊥) → r ≡ numberName n
   unfolding numberName
   no-number h0 h1 h2 h3 h4 h5 h6 h7 h8 h9 h10 h11 h12 h13 h14 h15 h16 h17 h18 h19 = simp (ne-eqb n 0 h0, ne-eqb n 1 h1, ne-eqb n 2 h2, ne-eqb n 3 h3, ne-eqb n 4 h4, ne-eqb n 10 h5, ne-eqb n 11 h6, ne-eqb n 12 h7, ne-eqb n 13 h8, ne-eqb n 14 h9, ne-eqb n 15 h10, ne-eqb n 16 h11, ne-eqb n 31 h12, ne-eqb n 32 h13, ne-eqb n 21 h14, ne-eqb n 22 h15, ne-eqb n 23 h16, ne-eqb n 24 h17, ne-eqb n 25 h18, ne-eqb n 26 h19) e
-
-  pub no-refused : n < 10 → (n ≡ 0 → ⊥) → (n ≡ 1 → ⊥) → (n ≡ 2 → ⊥) → (n ≡ 3 → ⊥) → (n ≡ 4 → ⊥) → r ≡ numberName n
-  no-refused b h0 h1 h2 h3 h4 = no-number h0 h1 h2 h3 h4 (λ q. omega arith) (λ q. omega arith) (λ q. omega arith) (λ q. omega arith) (λ q. omega arith) (λ q. omega arith) (λ q. omega arith) (λ q. omega arith) (λ q. omega arith) (λ q. omega arith) (λ q. omega arith) (λ q. omega arith) (λ q. omega arith) (λ q. omega arith) (λ q. omega arith)
-
-  pub no-broken : 10 ≤ n → n < 20 → (n ≡ 10 → ⊥) → (n ≡ 11 → ⊥) → (n ≡ 12 → ⊥) → (n ≡ 13 → ⊥) → (n ≡ 14 → ⊥) → (n ≡ 15 → ⊥) → (n ≡ 16 → ⊥) → r ≡ numberName n
-  no-broken a b h0 h1 h2 h3 h4 h5 h6 = no-number (λ q. omega arith) (λ q. omega arith) (λ q. omega arith) (λ q. omega arith) (λ q. omega arith) h0 h1 h2 h3 h4 h5 h6 (λ q. omega arith) (λ q. omega arith) (λ q. omega arith) (λ q. omega arith) (λ q. omega arith) (λ q. omega arith) (λ q. omega arith) (λ q. omega arith)
-
-  pub no-writing : 20 ≤ n → n < 30 → (n ≡ 21 → ⊥) → (n ≡ 22 → ⊥) → (n ≡ 23 → ⊥) → (n ≡ 24 → ⊥) → (n ≡ 25 → ⊥) → (n ≡ 26 → ⊥) → r ≡ numberName n
-  no-writing a b h0 h1 h2 h3 h4 h5 = no-number (λ q. omega arith) (λ q. omega arith) (λ q. omega arith) (λ q. omega arith) (λ q. omega arith) (λ q. omega arith) (λ q. omega arith) (λ q. omega arith) (λ q. omega arith) (λ q. omega arith) (λ q. omega arith) (λ q. omega arith) (λ q. omega arith) (λ q. omega arith) h0 h1 h2 h3 h4 h5
-
-  pub no-signature : 30 ≤ n → (n ≡ 31 → ⊥) → (n ≡ 32 → ⊥) → r ≡ numberName n
-  no-signature a h0 h1 = no-number (λ q. omega arith) (λ q. omega arith) (λ q. omega arith) (λ q. omega arith) (λ q. omega arith) (λ q. omega arith) (λ q. omega arith) (λ q. omega arith) (λ q. omega arith) (λ q. omega arith) (λ q. omega arith) (λ q. omega arith) h0 h1 (λ q. omega arith) (λ q. omega arith) (λ q. omega arith) (λ q. omega arith) (λ q. omega arith) (λ q. omega arith)
 
   pub no-method : (n ≡ 1 → ⊥) → r ≡ methodName n
   unfolding methodName

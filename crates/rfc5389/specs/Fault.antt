@@ -4,7 +4,7 @@ use mathlib.Core.List.{List}
 use lib.ListN.{length, getD, drop}
 use lib.Dec.{ltb, eqb}
 use Rattle.base.specs.Choice.{pick}
-use Rattle.utf8.specs.Utf8.{isUtf8}
+use Rattle.unicode.specs.Utf8.{isUtf8}
 use Rattle.rfc5389.specs.Rows.{look}
 use Rattle.rfc5389.specs.declared.Row.{Row}
 use Rattle.rfc5389.specs.declared.Rule.{Rule}

@@ -10,7 +10,7 @@ use lib.Dec.{ltb}
 use Rattle.base.specs.Choice.{pick}
 use Rattle.wire.specs.declared.transaction_id.TransactionId.{TransactionId}
 use Rattle.attribute.specs.Attribute.{Attr}
-use Rattle.utf8.specs.Utf8.{isUtf8}
+use Rattle.unicode.specs.Utf8.{isUtf8}
 use Rattle.rfc5389.specs.Rows.{look, rfc5389}
 use Rattle.rfc5389.specs.Fault.{ruleOf, ruleFault, sizeFault, fault}
 use Rattle.rfc5389.specs.declared.Row.{Row}

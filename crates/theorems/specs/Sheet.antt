@@ -10,7 +10,7 @@ use Rattle.wire.specs.TypeNumber.{typeOf, classOf, methodOf, classNumbered}
 use Rattle.header.specs.Header.{frontFault, headerFault}
 use Rattle.attribute.specs.Attribute.{Attr, stop, more, parse, bytesOf}
 use Rattle.attribute.specs.Scan.{scan, scanned}
-use Rattle.utf8.specs.Utf8.{isUtf8, goes}
+use Rattle.unicode.specs.Utf8.{isUtf8, goes}
 use Rattle.rfc5389.specs.Rows.{rfc5389, look}
 use Rattle.rfc5389.specs.Fault.{fault, ruleOf, sizeFault, ruleFault, addressFault, codeFault}
 use Rattle.rfc5389.specs.declared.Sizes.the-variants.{Unknown}

@@ -15,7 +15,7 @@ use Rattle.net.specs.Net.{xored, addrXor}
 use Rattle.net.specs.declared.Family.the-variants.{Ipv4}
 use Rattle.attribute.specs.Attribute.{parse}
 use Rattle.attribute.specs.Scan.{scan, scanned}
-use Rattle.utf8.specs.Utf8.{goes, isUtf8}
+use Rattle.unicode.specs.Utf8.{goes, isUtf8}
 use Rattle.rfc5389.specs.Rows.{look, rfc5389}
 use Rattle.rfc5389.specs.Fault.{ruleOf, addressFault, codeFault, ruleFault, sizeFault, fault}
 use Rattle.message.specs.Reading.{valueFaults, printFault, printFaults, outcome, readingOf}

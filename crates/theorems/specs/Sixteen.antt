@@ -24,7 +24,7 @@ use Rattle.attribute.specs.Scan.{scan, scanned}
 use Rattle.attribute.specs.declared.Scan.{Scan}
 use Rattle.attribute.specs.declared.Scan.the-variants.{Passed, Fault}
 use Rattle.attribute.specs.PassLaws.{Pass, passed-all}
-use Rattle.utf8.specs.Utf8.{isUtf8}
+use Rattle.unicode.specs.Utf8.{isUtf8}
 use Rattle.fingerprint.specs.Fingerprint.{fingerprintAt}
 use Rattle.rfc5389.specs.Rows.{look, rfc5389}
 use Rattle.rfc5389.specs.Fault.{ruleOf, addressFault, codeFault, ruleFault, sizeFault, fault}

@@ -8,9 +8,9 @@ use native.Mathlib.Numerals.{add-one}
 use lib.ListN.{length, getD, drop, drop-of-length-le}
 use lib.Seq.{drop-cons}
 use lib.Dec.{leb}
-use Rattle.utf8.specs.Points.{starts, points}
+use Rattle.unicode.specs.Points.{starts, points}
 
--- a byte, by the test of `within`
+-- a byte, by the test of `right`
 pub is-tail : (b : ℕ) (t : Bool) → t ≡ (leb 0x80 b && leb b 0xBF) → t ≡ true → 0 ≡ starts b
 unfolding starts
 is-tail b t e f = rw (sym e ∙ f)

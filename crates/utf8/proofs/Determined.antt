@@ -3,8 +3,8 @@ use Prim.Native.Nat.{ℕ}
 use mathlib.Core.List.{List}
 use mathlib.Core.Bool.{Bool}
 use Rattle.base.specs.Determined.{Determines, by}
-use Rattle.utf8.specs.Utf8.{isUtf8}
-use Rattle.utf8.specs.Points.{points}
+use Rattle.unicode.specs.Utf8.{isUtf8}
+use Rattle.unicode.specs.Points.{points}
 use Rattle.utf8.proofs.is_utf8.Kinds as check
 use Rattle.utf8.proofs.is_utf8.Reads as check-reads
 use Rattle.utf8.proofs.code_points.Kinds as count

@@ -1,4 +1,4 @@
--- What `two`, `three` and `four` answer, by the bytes that they looked at. The tests are those of `within`.
+-- What `two`, `three` and `four` answer, by the bytes that they looked at. The tests are those of `right`.
 use Prim.Native.Nat.{ℕ, suc, _+_, _-_, _≤_, _<_}
 use mathlib.Core.List.{List, [], _∷_}
 use mathlib.Core.Bool.{Bool, true, false, _&&_, not, and-false}
@@ -8,15 +8,15 @@ use lib.ListN.{length, getD, drop, length-drop}
 use lib.Seq.{drop-cons}
 use lib.Dec.{leb}
 use borrow.Author.Tests.{le-leb, lt-leb, not-true, not-false}
-use Rattle.utf8.specs.Utf8.{_to_, Sequence, begins}
-use Rattle.utf8.specs.Utf8Laws.{begins-fits}
+use Rattle.unicode.specs.Utf8.{_to_, Sequence, begins}
+use Rattle.unicode.specs.Utf8Laws.{begins-fits}
 use Rattle.utf8.specs.Places.{behindAt}
 
 -- the test of the byte at i
 abbrev test : List ℕ → ℕ → ℕ → ℕ → Bool
 test s i lo hi = leb lo (getD s i 0) && leb (getD s i 0) hi
 
--- the two ends of `within`
+-- the two ends of `right`
 pub low-enough : (lo hi b : ℕ) → lo ≤ b → leb b hi ≡ (leb lo b && leb b hi)
 low-enough lo hi b h = rw (le-leb lo b h)
 

@@ -3,15 +3,18 @@ ghost use mathlib.Core.Path.{_≡_};
 ghost use mathlib.Core.List.{[], _∷_};
 ghost use mathlib.Core.Bool.{_&&_};
 ghost use Prim.Native.Nat.{_<_};
-ghost use lib.ListN.{length};
+ghost use lib.ListN.{length, getD};
 ghost use lib.Dec.{leb};
-ghost use Rattle.utf8.specs.Utf8.{_to_, UTF8-tail, isUtf8};
+ghost use Rattle.unicode.specs.Utf8.{_to_, UTF8-tail, isUtf8};
 ghost use Rattle.utf8.specs.Places.{widthAt, behindAt};
-ghost use Rattle.utf8.specs.Points.{starts, points};
+ghost use Rattle.unicode.specs.Points.{starts, points};
 
-fn within(b: u8, lo: u8, hi: u8) -> bool
-    ensures { λ r. ⌜ r ≡ (leb lo b && leb b hi) ⌝ }
+// Whether the byte at a place is one from `lo` to `hi`.
+fn right(s: &[u8], i: usize, lo: u8, hi: u8) -> bool
+    requires { ⌜ i < length (now s) ⌝ }
+    ensures { λ r. ⌜ r ≡ (leb lo (getD (now (s .entry)) i 0) && leb (getD (now (s .entry)) i 0) hi) ⌝ }
 {
+    let b = s[i];
     lo <= b && b <= hi
 }
 
@@ -23,7 +26,7 @@ fn two(s: &[u8], at: usize) -> usize
     if s.len() - at < 2 {
         return 0;
     }
-    if !within(s[at + 1], 0x80, 0xBF) {
+    if !right(s, at + 1, 0x80, 0xBF) {
         return 0;
     }
     2
@@ -37,10 +40,10 @@ fn three(s: &[u8], at: usize, lo: u8, hi: u8) -> usize
     if s.len() - at < 3 {
         return 0;
     }
-    if !within(s[at + 1], lo, hi) {
+    if !right(s, at + 1, lo, hi) {
         return 0;
     }
-    if !within(s[at + 2], 0x80, 0xBF) {
+    if !right(s, at + 2, 0x80, 0xBF) {
         return 0;
     }
     3
@@ -53,13 +56,13 @@ fn four(s: &[u8], at: usize, lo: u8, hi: u8) -> usize
     if s.len() - at < 4 {
         return 0;
     }
-    if !within(s[at + 1], lo, hi) {
+    if !right(s, at + 1, lo, hi) {
         return 0;
     }
-    if !within(s[at + 2], 0x80, 0xBF) {
+    if !right(s, at + 2, 0x80, 0xBF) {
         return 0;
     }
-    if !within(s[at + 3], 0x80, 0xBF) {
+    if !right(s, at + 3, 0x80, 0xBF) {
         return 0;
     }
     4
@@ -117,11 +120,12 @@ pub fn is_utf8(s: &[u8]) -> bool
     true
 }
 
-// 1 for a byte that starts a code point, 0 for a UTF8-tail.
-fn starting(b: u8) -> usize
-    ensures { λ r. ⌜ r ≡ starts b ⌝ }
+// 1 where the byte at a place starts a code point, 0 where it is a UTF8-tail.
+fn starting(s: &[u8], i: usize) -> usize
+    requires { ⌜ i < length (now s) ⌝ }
+    ensures { λ r. ⌜ r ≡ starts (getD (now (s .entry)) i 0) ⌝ }
 {
-    if within(b, 0x80, 0xBF) { 0 } else { 1 }
+    if right(s, i, 0x80, 0xBF) { 0 } else { 1 }
 }
 
 // How many code points bytes that are UTF-8 have; of any others, how many bytes are no UTF8-tail.
@@ -131,7 +135,7 @@ pub fn code_points(s: &[u8]) -> usize
     let mut n = 0;
     let mut i = 0;
     while i < s.len() {
-        n += starting(s[i]);
+        n += starting(s, i);
         i += 1;
     }
     n

@@ -21,8 +21,6 @@ append-address-spec =
     (λ c κs. search needs)
     (λ c κs. search needs)
     (λ c κs. search needs)
-    (λ c κs. search needs)
-    (λ c κs. search needs)
     add-n
     (λ c κs. search needs)
     (λ c. search needs)

@@ -1,45 +1,36 @@
-use Rattle.append_fields.proofs.Values.{low, high, long, stops, keeps, code-answer, code-buffer}
+use Prim.Native.Nat.{_≤_}
+use lib.ListN.{length}
+use native.Mathlib.Omega.{arith}
+use Rattle.append_fields.proofs.Values.{below-700, fits, stops, keeps, code-answer, code-buffer}
 use borrow.Author.Needs.{needs}
 use Rattle.append_fields.proofs.append_error_code.Statement.{statement}
 use Rattle.append_fields.proofs.append_error_code.Tie as tie
 
 returns : tie.Need-returns
-returns c = (search (stops, low), search (keeps, low))
+returns c = (search (stops), search (keeps))
+
+code-bytes-requires : tie.Need-code-bytes-requires
+code-bytes-requires c κs = (search (below-700), search (fits))
+
+part-append-code-end : tie.Need-part-append-code-end
+part-append-code-end c = let h : length (c .before .before .before .before .before .before .before .args .phrase .now) ≤ 127 = search (fits) in omega arith
 
 returns-2 : tie.Need-returns-2
-returns-2 c = (search (stops, high), search (keeps, high))
-
-returns-3 : tie.Need-returns-3
-returns-3 c = (search (stops, long), search (keeps, long))
-
-returns-4 : tie.Need-returns-4
-returns-4 c = (search (code-answer), search (code-buffer))
+returns-2 c = (search (code-answer), search (code-buffer))
 
 pub append-error-code-spec : {M : Type 1} → statement M
 append-error-code-spec =
     tie.close
     (tie.spec
-    (λ c. search needs)
+    (λ c κs. search needs)
     (λ c κs. search needs)
     (λ c. search needs)
     returns
+    code-bytes-requires
     (λ c. search needs)
+    (λ c. search needs)
+    (λ c. search needs)
+    part-append-code-end
     (λ c κs. search needs)
     (λ c. search needs)
-    returns-2
-    (λ c. search needs)
-    (λ c κs. search needs)
-    (λ c. search needs)
-    returns-3
-    (λ c κs. search needs)
-    (λ c. search needs)
-    (λ c. search needs)
-    (λ c. search needs)
-    (λ c. search needs)
-    (λ c κs. search needs)
-    (λ c. search needs)
-    (λ c. search needs)
-    (λ c. search needs)
-    (λ c κs. search needs)
-    (λ c. search needs)
-    returns-4)
+    returns-2)

@@ -7,4 +7,13 @@ returns : tie.Need-returns
 returns c = search (at-front)
 
 pub of-spec : {M : Type 1} → statement M
-of-spec = tie.close (tie.spec (λ c. search needs) (λ c κs. search needs) returns)
+of-spec =
+    tie.close
+    (tie.spec
+    (λ c. search needs)
+    (λ c. search needs)
+    (λ c. search needs)
+    (λ c. search needs)
+    (λ c κs. search needs)
+    (λ c. search needs)
+    returns)

@@ -31,7 +31,6 @@ code-points-spec =
     Inv-loop
     μ-loop
     loop-holds
-    (λ c. search needs)
     (λ c κs. search needs)
     add-n
     (λ c. search needs)

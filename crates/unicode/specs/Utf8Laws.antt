@@ -10,7 +10,7 @@ use lib.Seq.{drop-append-seam}
 use lib.Dec.{leb}
 use borrow.Author.Tests.{le-leb, lt-leb, leb-true}
 use Rattle.base.specs.Choice.{pick}
-use Rattle.utf8.specs.Utf8.{_to_, Sequence, UTF8-char, Has, none, byte, OneOf, this, later, Among, is, Octets, end, char, begins, first, width, goes, isUtf8}
+use Rattle.unicode.specs.Utf8.{_to_, Sequence, UTF8-char, Has, none, byte, OneOf, this, later, Among, is, Octets, end, char, begins, first, width, goes, isUtf8}
 
 pub inside : (lo hi b : ℕ) → lo ≤ b → b ≤ hi → (leb lo b && leb b hi) ≡ true
 inside lo hi b h l = rw (le-leb lo b h, le-leb b hi l)

@@ -6,9 +6,9 @@ use native.Mathlib.Omega.{arith}
 use native.Mathlib.Decide.{decLe}
 use lib.ListN.{length, getD}
 use borrow.Author.Tests.{le-leb, lt-leb}
-use Rattle.utf8.specs.Utf8.{_to_, Sequence, UTF8-tail, UTF8-char, Has, none, byte, this, later, Among, is}
-use Rattle.utf8.specs.Utf8Laws.{row}
-use Rattle.utf8.specs.Scalars.{Scalar, low, high, encode}
+use Rattle.unicode.specs.Utf8.{_to_, Sequence, UTF8-tail, UTF8-char, Has, none, byte, this, later, Among, is}
+use Rattle.unicode.specs.Utf8Laws.{row}
+use Rattle.unicode.specs.Scalars.{Scalar, low, high, encode}
 
 -- encoding, by the number's range
 encode-1 : (n : ℕ) → n ≤ 0x7F → encode n ≡ n ∷ []

@@ -7,12 +7,12 @@ use mathlib.Core.Path.{_≡_, refl, sym, ap, _∙_}
 use native.Mathlib.Omega.{arith}
 use lib.ListN.{length, take, drop, length-append}
 use lib.Seq.{take-append-seam, drop-append-seam}
-use Rattle.utf8.specs.Utf8.{UTF8-char, Among, Octets, end, char, width, isUtf8}
-use Rattle.utf8.specs.Utf8Laws.{char-some, width-char, utf8-empty, utf8-char, yes-octets}
-use Rattle.utf8.specs.Scalars.{Scalars, encode, join}
-use Rattle.utf8.specs.ScalarsLaws.{Encoded, char-encoded, scalar-char, encode-once}
-use Rattle.utf8.specs.Points.{points}
-use Rattle.utf8.specs.PointsLaws.{char-points}
+use Rattle.unicode.specs.Utf8.{UTF8-char, Among, Octets, end, char, width, isUtf8}
+use Rattle.unicode.specs.Utf8Laws.{char-some, width-char, utf8-empty, utf8-char, yes-octets}
+use Rattle.unicode.specs.Scalars.{Scalars, encode, join}
+use Rattle.unicode.specs.ScalarsLaws.{Encoded, char-encoded, scalar-char, encode-once}
+use Rattle.unicode.specs.Points.{points}
+use Rattle.unicode.specs.PointsLaws.{char-points}
 
 -- scalar values, encoded and joined, are UTF-8
 pub joined-utf8 : (ns : List ℕ) → Scalars ns → isUtf8 (join ns) ≡ true

@@ -6,9 +6,9 @@ use mathlib.Core.Path.{_≡_, refl}
 use native.Mathlib.Omega.{arith}
 use lib.Dec.{leb}
 use borrow.Author.Tests.{leb-true}
-use Rattle.utf8.specs.Utf8.{_to_, Sequence, UTF8-char, Has, none, byte, OneOf, this, later, Among, is}
-use Rattle.utf8.specs.Utf8Laws.{inside, below, above, and-left, and-right}
-use Rattle.utf8.specs.Points.{starts, points}
+use Rattle.unicode.specs.Utf8.{_to_, Sequence, UTF8-char, Has, none, byte, OneOf, this, later, Among, is}
+use Rattle.unicode.specs.Utf8Laws.{inside, below, above, and-left, and-right}
+use Rattle.unicode.specs.Points.{starts, points}
 
 starts-below : (b : ℕ) → b < 0x80 → starts b ≡ 1
 unfolding starts
