@@ -56,7 +56,8 @@ pub form-bytes : (k : AddressKind) (addr : SocketAddr) (id : TransactionId) {a :
     → f ≡ familyNumber (a .family) → v ≡ 0 ∷ f ∷ two (a .port) ++ a .ip
     → v ≡ 0 ∷ familyNumber (given k addr id .family) ∷ two (given k addr id .port) ++ given k addr id .ip
 form-bytes k addr id {a} g fe ve =
-    ve ∙ ap (λ (y : ℕ). 0 ∷ y ∷ two (a .port) ++ a .ip) fe ∙ ap (λ (x : SocketAddr). 0 ∷ familyNumber (x .family) ∷ two (x .port) ++ x .ip) g
+    ve ∙ ap (λ (y : ℕ). 0 ∷ y ∷ two (a .port) ++ a .ip) fe
+    ∙ ap (λ (x : SocketAddr). 0 ∷ familyNumber (x .family) ∷ two (x .port) ++ x .ip) g
 
 -- the XOR form is of the same family
 same-family : (k : AddressKind) (a : SocketAddr) (id : TransactionId) → given k a id .family ≡ a .family
@@ -117,30 +118,23 @@ module _ (c n : ℕ) where
   pub in-range : 300 ≤ c → c ≤ 699 → ltb 127 n ≡ out c n
   in-range l h = rw (le-ltb c 300 l, le-ltb 699 c h)
 
+  -- what holds where it answers no
   module _ {t : Bool} (e : t ≡ out c n) (f : t ≡ false) where
+    stays : {A : Type 0} → Dec A → ((A → ⊥) → true ≡ out c n) → A
+    stays (yes l) g = l
+    stays (no l) g = absurd (false≢true (sym f ∙ e ∙ sym (g l)))
+
     low-end : 300 ≤ c
-    low-end = by (decLe 300 c)
-      where
-        by : Dec (300 ≤ c) → 300 ≤ c
-        by (yes l) = l
-        by (no l) = absurd (false≢true (sym f ∙ e ∙ sym (too-low (omega arith))))
+    low-end = stays (decLe 300 c) (λ h. too-low (omega arith))
 
     high-end : c ≤ 699
-    high-end = by (decLe c 699)
-      where
-        by : Dec (c ≤ 699) → c ≤ 699
-        by (yes l) = l
-        by (no l) = absurd (false≢true (sym f ∙ e ∙ sym (too-high low-end (omega arith))))
+    high-end = stays (decLe c 699) (λ h. too-high low-end (omega arith))
 
     pub below-700 : c < 700
     below-700 = omega (arith, high-end)
 
     pub fits : n ≤ 127
-    fits = by (decLe n 127)
-      where
-        by : Dec (n ≤ 127) → n ≤ 127
-        by (yes l) = l
-        by (no l) = absurd (false≢true (sym f ∙ e ∙ sym (in-range low-end high-end) ∙ lt-ltb 127 n (omega arith)))
+    fits = stays (decLe n 127) (λ h. sym (lt-ltb 127 n (omega arith)) ∙ in-range low-end high-end)
 
 -- an ERROR-CODE of more than 131 bytes
 too-long : (v : List ℕ) → 131 < length v → fault rfc5389 0x0009 v ≡ 11
@@ -191,13 +185,15 @@ module _ (c : ℕ) (s : List ℕ) where
     wrong : refusal rfc5389 0x0009 (codeValue c s) ≡ codeRefusal rfc5389 c s
     wrong = sym (by-value (low-end c (length s) o f) (high-end c (length s) o f))
 
-    pub code-answer : {r : Written} → r ≡ answer d (refusal rfc5389 0x0009 (take (4 + length s - 0) (drop 0 m))) (typed 0x0009 (take (4 + length s - 0) (drop 0 m)))
+    pub code-answer : {r : Written}
+        → r ≡ answer d (refusal rfc5389 0x0009 (take (4 + length s - 0) (drop 0 m))) (typed 0x0009 (take (4 + length s - 0) (drop 0 m)))
         → r ≡ answer d (codeRefusal rfc5389 c s) (typed 0x0009 (codeValue c s))
     code-answer p =
         p ∙ ap (λ (x : List ℕ). answer d (refusal rfc5389 0x0009 x) (typed 0x0009 x)) bytes
         ∙ ap (λ (y : ℕ). answer d y (typed 0x0009 (codeValue c s))) wrong
 
-    pub code-buffer : {b : List ℕ} → b ≡ appended d (refusal rfc5389 0x0009 (take (4 + length s - 0) (drop 0 m))) (typed 0x0009 (take (4 + length s - 0) (drop 0 m)))
+    pub code-buffer : {b : List ℕ}
+        → b ≡ appended d (refusal rfc5389 0x0009 (take (4 + length s - 0) (drop 0 m))) (typed 0x0009 (take (4 + length s - 0) (drop 0 m)))
         → b ≡ appended d (codeRefusal rfc5389 c s) (typed 0x0009 (codeValue c s))
     code-buffer p =
         p ∙ ap (λ (x : List ℕ). appended d (refusal rfc5389 0x0009 x) (typed 0x0009 x)) bytes

@@ -13,7 +13,8 @@ code-bytes-requires : tie.Need-code-bytes-requires
 code-bytes-requires c κs = (search (below-700), search (fits))
 
 part-append-code-end : tie.Need-part-append-code-end
-part-append-code-end c = let h : length (c .before .before .before .before .before .before .before .args .phrase .now) ≤ 127 = search (fits) in omega arith
+part-append-code-end c =
+    let h : length (c .before .before .before .before .before .before .before .args .phrase .now) ≤ 127 = search (fits) in omega arith
 
 returns-2 : tie.Need-returns-2
 returns-2 c = (search (code-answer), search (code-buffer))
