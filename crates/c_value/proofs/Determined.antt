@@ -3,16 +3,12 @@ use Prim.Native.Nat.{ℕ}
 use mathlib.Core.List.{List}
 use mathlib.Core.Bool.{Bool}
 use Rattle.base.specs.Determined.{Determines, by}
-use lib.ListN.{length}
 use Rattle.rfc5389.specs.Rows.{rfc5389}
 use Rattle.value.specs.First.{firstIn, first, placed, isThere}
-use Rattle.typed.specs.Typed.{typedOf, partOf, partAt}
 use Rattle.integrity.specs.Integrity.{integrityFault}
-use Rattle.c_value.specs.Said.{found, valueIn, realmIn, typedSaid}
+use Rattle.c_value.specs.Said.{found, valueIn, realmIn}
 use Rattle.c_value.specs.declared.First.{First}
-use Rattle.c_wire.specs.declared.Id.{Id}
 use Rattle.c_value.specs.declared.Part.{Part}
-use Rattle.c_value.specs.declared.Typed.{Typed}
 use Rattle.c_value.proofs.cratehoist_search.Kinds as search-kinds
 use Rattle.c_value.proofs.cratehoist_search.Reads as search-reads
 use Rattle.c_value.proofs.cratehoist_find.Kinds as find-kinds
@@ -23,8 +19,6 @@ use Rattle.c_value.proofs.cratehoist_first_value.Kinds as first-value-k
 use Rattle.c_value.proofs.cratehoist_first_value.Reads as first-value-reads
 use Rattle.c_value.proofs.cratehoist_realm.Kinds as realm-kinds
 use Rattle.c_value.proofs.cratehoist_realm.Reads as realm-reads
-use Rattle.c_value.proofs.cratehoist_typed_value.Kinds as typed-value-kinds
-use Rattle.c_value.proofs.cratehoist_typed_value.Reads as typed-value-reads
 use Rattle.c_value.proofs.cratehoist_check_integrity.Kinds as check-integrity-kinds
 use Rattle.c_value.proofs.cratehoist_check_integrity.Reads as check-integrity-reads
 
@@ -61,13 +55,6 @@ pub determined-realm : Determines realm-kinds.ps realm-kinds.r {I = List ℕ × 
 determined-realm =
     by realm-kinds.ps realm-kinds.r realm-reads.Asked realm-reads.Learnt _ _
     (λ x. realmIn (x .0) (x .1))
-    (λ κs a y d i q. q)
-
-pub determined-typed-value : Determines typed-value-kinds.ps typed-value-kinds.r {I = ℕ × List ℕ × Id} {A = Typed} typed-value-reads.Asked typed-value-reads.Learnt
-    (λ κs a. (a .0, a .1 .0 .now, a .1 .1 .0)) (λ κs z e. z)
-determined-typed-value =
-    by typed-value-kinds.ps typed-value-kinds.r typed-value-reads.Asked typed-value-reads.Learnt _ _
-    (λ x. typedSaid (typedOf rfc5389 (x .0) (x .1) (record { bytes = (x .2) .bytes })) (partAt rfc5389 (x .0) (x .1)) (length (partOf rfc5389 (x .0) (x .1))))
     (λ κs a y d i q. q)
 
 pub determined-check-integrity : Determines check-integrity-kinds.ps check-integrity-kinds.r {I = List ℕ × List ℕ} {A = ℕ} check-integrity-reads.Asked check-integrity-reads.Learnt

@@ -1,20 +1,15 @@
--- What C is told of the first attribute of a type, of a part, and of a value: the library's answers in numbers.
+-- What C is told of the first attribute of a type, and of a part: the library's answers in numbers.
 use Prim.Native.Nat.{ℕ}
 use mathlib.Core.List.{List}
 use mathlib.Core.Bool.{true, false}
 use lib.ListN.{length}
-use Rattle.net.specs.Net.{familyNumber}
 use Rattle.rfc5389.specs.Rows.{rfc5389}
 use Rattle.value.specs.First.{Place, first, isThere, valueOf, valueAt}
 use Rattle.value.specs.declared.First as value
 use Rattle.value.specs.declared.First.the-variants.{Found, Absent}
-use Rattle.typed.specs.declared.Value.{Value}
-use Rattle.typed.specs.declared.Value.the-variants.{Address, Code, Plain, Refused}
-use Rattle.typed.specs.declared.Typed as typed
 use Rattle.realm.specs.Realm.{realmOf}
 use Rattle.c_value.specs.declared.First.{First}
 use Rattle.c_value.specs.declared.Part.{Part}
-use Rattle.c_value.specs.declared.Typed.{Typed}
 
 unfoldable pub found : value.First → First
 found (Found p n) = record { there = true; place = p; size = n }
@@ -31,13 +26,3 @@ realmIn d s = record {
   start = valueAt (first rfc5389 0x0014 d);
   size = length (realmOf rfc5389 d s);
 }
-
--- what a value says, with its part's start and size
-unfoldable pub typedBy : Value → List ℕ → ℕ → ℕ → Typed
-typedBy (Address f p) ip a n = record { number = 0; family = familyNumber f; port = p; code = 0; ip = ip; start = a; size = n }
-typedBy (Code c) ip a n = record { number = 0; family = 0; port = 0; code = c; ip = ip; start = a; size = n }
-typedBy Plain ip a n = record { number = 0; family = 0; port = 0; code = 0; ip = ip; start = a; size = n }
-typedBy (Refused k) ip a n = record { number = k; family = 0; port = 0; code = 0; ip = ip; start = a; size = n }
-
-unfoldable pub typedSaid : typed.Typed → ℕ → ℕ → Typed
-typedSaid t a n = typedBy (t .value) (t .ip) a n

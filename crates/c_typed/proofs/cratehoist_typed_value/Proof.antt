@@ -1,7 +1,7 @@
-use Rattle.c_value.proofs.Sayings.{address, code, plain, faulty}
+use Rattle.c_typed.proofs.Sayings.{address, code, plain, faulty}
 use borrow.Author.Needs.{needs}
-use Rattle.c_value.proofs.cratehoist_typed_value.Statement.{statement}
-use Rattle.c_value.proofs.cratehoist_typed_value.Tie as tie
+use Rattle.c_typed.proofs.cratehoist_typed_value.Statement.{statement}
+use Rattle.c_typed.proofs.cratehoist_typed_value.Tie as tie
 
 returns : tie.Need-returns
 returns c = search (address)
