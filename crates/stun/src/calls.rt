@@ -1,10 +1,12 @@
 // The calls of a script: each takes its fields, makes one call of the library and says what came of it.
 use crate::answers::part;
+use crate::answers::plus;
 use crate::feed::is_comment;
 use crate::fields::bytes_of;
 use crate::fields::ends;
 use crate::fields::field;
 use crate::fields::low;
+use crate::fields::position;
 use crate::fields::short_of;
 use crate::fields::types_of;
 use crate::kinds::AddressOf;
@@ -16,13 +18,17 @@ use crate::kinds::text_of;
 use crate::wants::Wanted;
 use append_fields::AddressKind;
 use begin::Written;
-use check::same;
 use net::Family;
 use net::SocketAddr;
 use text::Hex;
 use text::Number;
 use wire::method::Method;
 use wire::transaction_id::TransactionId;
+
+// As many characters as a line has at most, and as many bytes as a buffer has.
+pub const LONGEST: usize = 262144;
+
+pub const LARGEST: usize = 131072;
 
 // What a line comes to; Message and Buffer are to be shown.
 pub enum Said {
@@ -120,8 +126,28 @@ fn addressed(kind: AddressKind, family: u64, port: u16, ip: &[u8], message: &mut
     append_typed::append_value(message, 23, kind.as_u16(), b"")
 }
 
+// The bytes of a call's last field: how many they are, or what was wanted.
+enum Tail {
+    Size(usize),
+    Not(Wanted),
+}
+
+fn last_of(t: Hex, s: &[u8], number: usize, wanted: Wanted) -> Tail {
+    let Hex::Bytes(n) = t else {
+        return Tail::Not(wanted);
+    };
+    if !ends(s, plus(number, 1)) {
+        return Tail::Not(Wanted::End);
+    }
+    Tail::Size(n)
+}
+
+fn last(s: &[u8], number: usize, bytes: &mut [u8; LONGEST]) -> Tail {
+    last_of(bytes_of(field(s, number), bytes), s, number, Wanted::Bytes)
+}
+
 // address TYPE FAMILY PORT IPHEX
-fn address(s: &[u8], bytes: &mut [u8], message: &mut [u8]) -> Said {
+fn address(s: &[u8], bytes: &mut [u8; LONGEST], message: &mut [u8]) -> Said {
     let AddressOf::Is(kind) = address_of(field(s, 1)) else {
         return Said::Expected(Wanted::AddressType);
     };
@@ -131,63 +157,52 @@ fn address(s: &[u8], bytes: &mut [u8], message: &mut [u8]) -> Said {
     let Number::Is(port) = short_of(field(s, 3)) else {
         return Said::Expected(Wanted::Port);
     };
-    let Hex::Bytes(n) = bytes_of(field(s, 4), bytes) else {
-        return Said::Expected(Wanted::Ip);
-    };
-    if !ends(s, 5) {
-        return Said::Expected(Wanted::End);
+    match last_of(bytes_of(field(s, 4), bytes), s, 4, Wanted::Ip) {
+        Tail::Size(n) => told(addressed(kind, family, low(port), part(bytes, 0, n), message)),
+        Tail::Not(w) => Said::Expected(w),
     }
-    told(addressed(kind, family, low(port), part(bytes, 0, n), message))
 }
 
 // text TYPE HEX
-fn text_call(s: &[u8], bytes: &mut [u8], message: &mut [u8]) -> Said {
+fn text_call(s: &[u8], bytes: &mut [u8; LONGEST], message: &mut [u8]) -> Said {
     let TextOf::Is(kind) = text_of(field(s, 1)) else {
         return Said::Expected(Wanted::TextType);
     };
-    let Hex::Bytes(n) = bytes_of(field(s, 2), bytes) else {
-        return Said::Expected(Wanted::Bytes);
-    };
-    if !ends(s, 3) {
-        return Said::Expected(Wanted::End);
+    match last(s, 2, bytes) {
+        Tail::Size(n) => told(append_typed::append_text(message, kind, part(bytes, 0, n))),
+        Tail::Not(w) => Said::Expected(w),
     }
-    told(append_typed::append_text(message, kind, part(bytes, 0, n)))
 }
 
 // error CODE HEX
-fn error(s: &[u8], bytes: &mut [u8], message: &mut [u8]) -> Said {
+fn error(s: &[u8], bytes: &mut [u8; LONGEST], message: &mut [u8]) -> Said {
     let Number::Is(code) = text::number_of(field(s, 1)) else {
         return Said::Expected(Wanted::Code);
     };
-    let Hex::Bytes(n) = bytes_of(field(s, 2), bytes) else {
-        return Said::Expected(Wanted::Bytes);
-    };
-    if !ends(s, 3) {
-        return Said::Expected(Wanted::End);
+    match last(s, 2, bytes) {
+        Tail::Size(n) => told(append_fields::append_error_code(
+            message,
+            low(code),
+            part(bytes, 0, n),
+        )),
+        Tail::Not(w) => Said::Expected(w),
     }
-    told(append_fields::append_error_code(message, low(code), part(bytes, 0, n)))
 }
 
 // types T,T,..
-fn types(s: &[u8], bytes: &mut [u8], message: &mut [u8]) -> Said {
-    let Hex::Bytes(n) = types_of(field(s, 1), bytes) else {
-        return Said::Expected(Wanted::Types);
-    };
-    if !ends(s, 2) {
-        return Said::Expected(Wanted::End);
+fn types(s: &[u8], bytes: &mut [u8; LONGEST], message: &mut [u8]) -> Said {
+    match last_of(types_of(field(s, 1), bytes), s, 1, Wanted::Types) {
+        Tail::Size(n) => told(append_typed::append_unknown_attributes(message, part(bytes, 0, n))),
+        Tail::Not(w) => Said::Expected(w),
     }
-    told(append_typed::append_unknown_attributes(message, part(bytes, 0, n)))
 }
 
 // integrity HEX
-fn integrity_call(s: &[u8], bytes: &mut [u8], message: &mut [u8]) -> Said {
-    let Hex::Bytes(n) = bytes_of(field(s, 1), bytes) else {
-        return Said::Expected(Wanted::Bytes);
-    };
-    if !ends(s, 2) {
-        return Said::Expected(Wanted::End);
+fn integrity_call(s: &[u8], bytes: &mut [u8; LONGEST], message: &mut [u8]) -> Said {
+    match last(s, 1, bytes) {
+        Tail::Size(n) => told(seal::append_message_integrity(message, part(bytes, 0, n))),
+        Tail::Not(w) => Said::Expected(w),
     }
-    told(seal::append_message_integrity(message, part(bytes, 0, n)))
 }
 
 fn fingerprint(s: &[u8], message: &mut [u8]) -> Said {
@@ -234,38 +249,6 @@ fn loaded(s: &[u8], store: &mut [u8]) -> Said {
     Said::Size(n)
 }
 
-fn typed_call(word: &[u8], s: &[u8], bytes: &mut [u8], message: &mut [u8]) -> Said {
-    if same(word, b"address") {
-        return address(s, bytes, message);
-    }
-    if same(word, b"text") {
-        return text_call(s, bytes, message);
-    }
-    if same(word, b"error") {
-        return error(s, bytes, message);
-    }
-    if same(word, b"types") {
-        return types(s, bytes, message);
-    }
-    Said::Expected(Wanted::Call)
-}
-
-fn call(word: &[u8], s: &[u8], bytes: &mut [u8], message: &mut [u8]) -> Said {
-    if same(word, b"begin") {
-        return begun(s, message);
-    }
-    if same(word, b"raw") {
-        return raw(s, bytes, message);
-    }
-    if same(word, b"integrity") {
-        return integrity_call(s, bytes, message);
-    }
-    if same(word, b"fingerprint") {
-        return fingerprint(s, message);
-    }
-    typed_call(word, s, bytes, message)
-}
-
 // A call that is a word alone.
 fn alone(s: &[u8], what: Said) -> Said {
     if !ends(s, 1) {
@@ -274,26 +257,58 @@ fn alone(s: &[u8], what: Said) -> Said {
     what
 }
 
-// A line; the buffer is the first bytes of the store, so many.
-pub fn one(s: &[u8], size: usize, bytes: &mut [u8], store: &mut [u8]) -> Said {
+// The calls that add an attribute or seal the message, by their numbers.
+fn added(call: usize, s: &[u8], bytes: &mut [u8; LONGEST], message: &mut [u8]) -> Said {
+    match call {
+        7 => text_call(s, bytes, message),
+        8 => error(s, bytes, message),
+        9 => types(s, bytes, message),
+        10 => integrity_call(s, bytes, message),
+        11 => fingerprint(s, message),
+        _ => Said::Expected(Wanted::Call),
+    }
+}
+
+// The calls on a message; the buffer is the first bytes of the store, so many.
+fn written(
+    call: usize,
+    s: &[u8],
+    size: usize,
+    bytes: &mut [u8; LONGEST],
+    store: &mut [u8],
+) -> Said {
+    if store.len() < size {
+        return Said::Nothing;
+    }
+    let message = &mut store[0..size];
+    match call {
+        4 => begun(s, message),
+        5 => raw(s, bytes, message),
+        6 => address(s, bytes, message),
+        _ => added(call, s, bytes, message),
+    }
+}
+
+// A call's number is its place in this list.
+fn call_of(word: &[u8]) -> usize {
+    position(
+        word,
+        b"show dump buffer load begin raw address text error types integrity fingerprint",
+    )
+}
+
+// A line.
+pub fn one(s: &[u8], size: usize, bytes: &mut [u8; LONGEST], store: &mut [u8; LARGEST]) -> Said {
     let word = field(s, 0);
     if word.len() == 0 || is_comment(word) {
         return Said::Nothing;
     }
-    if same(word, b"show") {
-        return alone(s, Said::Message);
+    let call = call_of(word);
+    match call {
+        0 => alone(s, Said::Message),
+        1 => alone(s, Said::Buffer),
+        2 => sized(s, store),
+        3 => loaded(s, store),
+        _ => written(call, s, size, bytes, store),
     }
-    if same(word, b"dump") {
-        return alone(s, Said::Buffer);
-    }
-    if same(word, b"buffer") {
-        return sized(s, store);
-    }
-    if same(word, b"load") {
-        return loaded(s, store);
-    }
-    if store.len() < size {
-        return Said::Nothing;
-    }
-    call(word, s, bytes, &mut store[0..size])
 }

@@ -5,6 +5,7 @@ use crate::answers::plus;
 use crate::person::bad;
 use crate::person::column;
 use crate::say::say;
+use crate::say::sign;
 use display::Span;
 
 fn is_marked(mark: Span, i: usize) -> bool {
@@ -17,7 +18,7 @@ fn is_marked(mark: Span, i: usize) -> bool {
 // What stands before a byte: a bracket where marked ones begin or end.
 fn between(before: bool, after: bool, colour: bool) {
     if before == after {
-        say(b" ");
+        sign(b' ');
         return;
     }
     if after {
@@ -64,9 +65,9 @@ fn row_at(d: &[u8], at: usize) -> &[u8] {
 
 // A row behind a line end.
 fn row(d: &[u8], at: usize, mark: Span, colour: bool) {
-    say(b"\n");
+    sign(b'\n');
     column(at, 5);
-    say(b" ");
+    sign(b' ');
     cells(row_at(d, at), at, mark, colour);
 }
 

@@ -1,6 +1,6 @@
 // Standard input line by line.
 use crate::answers::part;
-use crate::output::status;
+use crate::output::fail;
 use libc::STDIN_FILENO;
 
 // A line, and how much of the buffer is read. Of a long line, which is longer than the buffer, only the end is there.
@@ -110,18 +110,25 @@ fn last(f: Feed, have: usize) -> Feed {
     }
 }
 
-// Reads once behind what is there.
+// Reads once behind what is there: how much; more than there is room for where reading fails, which has been told.
+pub fn read_behind(input: &mut [u8], have: usize) -> usize {
+    if input.len() < have {
+        return 0;
+    }
+    let got = libc::read(STDIN_FILENO, &mut input[have..]);
+    if got < 0 {
+        fail(b"stun: standard input");
+        return usize::MAX;
+    }
+    io::count(got, input)
+}
+
+// Reads behind what is there, where there is room.
 fn more(f: Feed, have: usize, input: &mut [u8]) -> Feed {
     if input.len() <= have {
         return overlong(f, input);
     }
-    let got = libc::read(STDIN_FILENO, &mut input[have..]);
-    if got < 0 {
-        os::fail(b"stun: standard input");
-        status(b"2");
-        return over();
-    }
-    let n = io::count(got, input);
+    let n = read_behind(input, have);
     if n == 0 {
         return last(f, have);
     }

@@ -37,6 +37,23 @@ pub fn field(s: &[u8], number: usize) -> &[u8] {
     between(s, from, pass(s, from, false))
 }
 
+// A word's place in a list of words, counted from 0; a blank parts them. As many as there are where it is none of them.
+pub fn position(word: &[u8], list: &[u8]) -> usize {
+    let mut from = 0;
+    let mut number = 0;
+    let mut left = list.len();
+    while left > 0 && from < list.len() {
+        let end = find(list, from, b' ');
+        if same(word, between(list, from, end)) {
+            return number;
+        }
+        from = plus(end, 1);
+        number = plus(number, 1);
+        left -= 1;
+    }
+    number
+}
+
 // Has the line no more fields than so many?
 pub fn ends(s: &[u8], count: usize) -> bool {
     field(s, count).len() == 0

@@ -1,14 +1,19 @@
 // One datagram from a file or from standard input, as raw bytes or as hex text.
 use crate::answers::part;
 use crate::output::complain;
+use crate::output::complain_column;
+use crate::output::complain_number;
+use crate::output::fail;
 use crate::output::status;
-use libc::STDERR_FILENO;
 
-// Where reading hex text stands: digits kept, all digits, line and column, and whether the line is a comment or a
-// character was at fault.
+// As much as is read at a time.
+const FILE: usize = 65600;
+
+// Where reading hex text stands: how many digits there were and the last of them, line and column, and whether the line
+// is a comment or a character was at fault.
 struct Reached {
-    kept: usize,
     digits: u64,
+    last: u8,
     line: u64,
     column: u64,
     comment: bool,
@@ -53,8 +58,8 @@ pub fn is_blank(b: u8) -> bool {
 
 fn new_line(g: Reached) -> Reached {
     Reached {
-        kept: g.kept,
         digits: g.digits,
+        last: g.last,
         line: next(g.line),
         column: 0,
         comment: false,
@@ -64,8 +69,8 @@ fn new_line(g: Reached) -> Reached {
 
 fn along(g: Reached, comment: bool, bad: bool) -> Reached {
     Reached {
-        kept: g.kept,
         digits: g.digits,
+        last: g.last,
         line: g.line,
         column: next(g.column),
         comment,
@@ -92,23 +97,27 @@ fn passed(b: u8, g: Reached) -> Reached {
     along(g, false, true)
 }
 
-// A digit, kept as long as there is room.
-fn digit(b: u8, g: Reached, kept: &mut [u8]) -> Reached {
-    let n = g.kept;
-    if n < kept.len() {
-        kept[n] = b;
-        return Reached {
-            kept: n + 1,
-            digits: next(g.digits),
-            line: g.line,
-            column: next(g.column),
-            comment: false,
-            bad: false,
-        };
+// The byte that two digits spell, kept as long as there is room.
+fn spell(high: u8, low: u8, at: u64, raw: &mut [u8]) {
+    let digits = [high, low];
+    let mut byte = [0u8; 1];
+    text::unhex(&digits, &mut byte);
+    numbers::put_bytes(raw, at as usize, &byte);
+}
+
+// Every second digit makes a byte with the one before it.
+fn keep(b: u8, g: Reached, raw: &mut [u8]) {
+    if g.digits % 2 == 0 {
+        return;
     }
+    spell(g.last, b, g.digits / 2, raw);
+}
+
+fn digit(b: u8, g: Reached, raw: &mut [u8]) -> Reached {
+    keep(b, g, raw);
     Reached {
-        kept: n,
         digits: next(g.digits),
+        last: b,
         line: g.line,
         column: next(g.column),
         comment: false,
@@ -116,22 +125,22 @@ fn digit(b: u8, g: Reached, kept: &mut [u8]) -> Reached {
     }
 }
 
-fn character(b: u8, g: Reached, kept: &mut [u8]) -> Reached {
+fn character(b: u8, g: Reached, raw: &mut [u8]) -> Reached {
     if g.comment {
         return passed(b, g);
     }
     if is_digit(b) {
-        return digit(b, g, kept);
+        return digit(b, g, raw);
     }
     passed(b, g)
 }
 
 // More of the text; it stops at the first character that is at fault.
-fn gather(s: &[u8], g: Reached, kept: &mut [u8]) -> Reached {
+fn gather(s: &[u8], g: Reached, raw: &mut [u8]) -> Reached {
     let mut g = g;
     let mut i = 0;
     while i < s.len() {
-        g = character(s[i], g, kept);
+        g = character(s[i], g, raw);
         if g.bad {
             return g;
         }
@@ -140,19 +149,24 @@ fn gather(s: &[u8], g: Reached, kept: &mut [u8]) -> Reached {
     g
 }
 
-// What is left of the text.
-fn rest(fd: i32, file: &mut [u8], g: Reached, kept: &mut [u8]) -> Reached {
-    let mut g = g;
+// The text, of which so many bytes have been read.
+fn all_text(fd: i32, have: usize, file: &mut [u8; FILE], raw: &mut [u8]) -> Reached {
+    let mut g = Reached {
+        digits: 0,
+        last: 0,
+        line: 1,
+        column: 0,
+        comment: false,
+        bad: false,
+    };
+    let mut n = have;
     let mut left = u64::MAX;
-    while left > 0 {
+    while left > 0 && n > 0 {
+        g = gather(part(file, 0, n), g, raw);
         if g.bad {
             return g;
         }
-        let n = io::read_full(fd, file);
-        if n == 0 {
-            return g;
-        }
-        g = gather(part(file, 0, n), g, kept);
+        n = io::read_full(fd, file);
         left -= 1;
     }
     g
@@ -178,73 +192,57 @@ fn is_text(s: &[u8]) -> bool {
     true
 }
 
-// All of the text, of which so many bytes have been read.
-fn all_text(fd: i32, have: usize, file: &mut [u8], kept: &mut [u8]) -> Reached {
-    let g = Reached {
-        kept: 0,
-        digits: 0,
-        line: 1,
-        column: 0,
-        comment: false,
-        bad: false,
-    };
-    let g = gather(part(file, 0, have), g, kept);
-    rest(fd, file, g, kept)
-}
-
-fn fault_at(name: &[u8], g: Reached) -> Found {
+// Begins to tell what is wrong with a file; it makes the status 2.
+fn wrong(name: &[u8]) {
+    status(2);
     complain(b"stun: ");
     complain(name);
-    complain(b": line ");
-    io::print_decimal(STDERR_FILENO, g.line);
-    complain(b", column ");
-    io::print_decimal(STDERR_FILENO, g.column);
-    complain(b": not a hex digit\n");
-    status(b"2");
-    nothing()
 }
 
-fn fault_odd(name: &[u8]) -> Found {
-    complain(b"stun: ");
-    complain(name);
+fn fault_at(name: &[u8], g: Reached) {
+    wrong(name);
+    complain_number(b": line ", g.line);
+    complain_column(g.column);
+}
+
+fn fault_odd(name: &[u8]) {
+    wrong(name);
     complain(b": an odd number of hex digits\n");
-    status(b"2");
-    nothing()
 }
 
-fn from_text(name: &[u8], g: Reached, kept: &[u8], raw: &mut [u8]) -> Found {
-    if g.bad {
-        return fault_at(name, g);
-    }
-    if g.digits % 2 != 0 {
-        return fault_odd(name);
-    }
-    let n = g.kept;
-    text::unhex(part(kept, 0, n), raw);
-    Found {
-        good: true,
-        size: n / 2,
-        total: g.digits / 2,
-    }
-}
-
-fn from_raw(s: &[u8], raw: &mut [u8]) -> Found {
-    let total = s.len() as u64;
-    if raw.len() < s.len() {
-        let n = raw.len();
-        numbers::put_bytes(raw, 0, part(s, 0, n));
+// As many bytes as there are, or as there is room for.
+fn of_size(total: u64, raw: &[u8]) -> Found {
+    let room = raw.len() as u64;
+    if room < total {
         return Found {
             good: true,
-            size: n,
+            size: raw.len(),
             total,
         };
     }
-    numbers::put_bytes(raw, 0, s);
     Found {
         good: true,
-        size: s.len(),
+        size: total as usize,
         total,
     }
+}
+
+fn from_text(name: &[u8], g: Reached, raw: &[u8]) -> Found {
+    if g.bad {
+        fault_at(name, g);
+        return nothing();
+    }
+    if g.digits % 2 != 0 {
+        fault_odd(name);
+        return nothing();
+    }
+    of_size(g.digits / 2, raw)
+}
+
+fn from_raw(s: &[u8], raw: &mut [u8]) -> Found {
+    let f = of_size(s.len() as u64, raw);
+    numbers::put_bytes(raw, 0, part(s, 0, f.size));
+    f
 }
 
 // How the bytes of a file are to be taken.
@@ -280,24 +278,27 @@ fn by_form(
     name: &[u8],
     form: Form,
     have: usize,
-    file: &mut [u8],
-    kept: &mut [u8],
+    file: &mut [u8; FILE],
     raw: &mut [u8],
 ) -> Found {
     if as_text(form, part(file, 0, have)) {
-        let g = all_text(fd, have, file, kept);
-        return from_text(name, g, kept, raw);
+        let g = all_text(fd, have, file, raw);
+        return from_text(name, g, raw);
     }
     from_raw(part(file, 0, have), raw)
+}
+
+// The system's own words on a file.
+fn unread(name: &[u8]) {
+    complain(b"stun: ");
+    fail(name);
 }
 
 // Reads as much as the buffer holds; more than that where reading fails, which has been told.
 fn begun(fd: i32, name: &[u8], file: &mut [u8]) -> usize {
     let got = libc::read(fd, file);
     if got < 0 {
-        complain(b"stun: ");
-        os::fail(name);
-        status(b"2");
+        unread(name);
         return usize::MAX;
     }
     filled(fd, io::count(got, file), file)
@@ -305,36 +306,26 @@ fn begun(fd: i32, name: &[u8], file: &mut [u8]) -> usize {
 
 // The datagram of an open file: its first bytes, as many as raw has room for. Above 65,555 bytes the first 65,556 are
 // answered as all are.
-fn taken(
-    fd: i32,
-    name: &[u8],
-    form: Form,
-    file: &mut [u8],
-    kept: &mut [u8],
-    raw: &mut [u8],
-) -> Found {
-    let have = begun(fd, name, file);
-    if file.len() < have {
+fn taken(fd: i32, name: &[u8], form: Form, raw: &mut [u8]) -> Found {
+    let mut file = [0u8; FILE];
+    let have = begun(fd, name, &mut file);
+    if FILE < have {
         return nothing();
     }
-    by_form(fd, name, form, have, file, kept, raw)
+    by_form(fd, name, form, have, &mut file, raw)
 }
 
 // The datagram of the file that a path names, `-` for standard input.
 pub fn datagram(path: &[u8], form: Form, raw: &mut [u8]) -> Found {
-    let mut file = [0u8; 65600];
-    let mut kept = [0u8; 131112];
     if check::same(path, b"-") {
-        return taken(0, b"standard input", form, &mut file, &mut kept, raw);
+        return taken(0, b"standard input", form, raw);
     }
     let fd = os::open_read(path);
     if fd < 0 {
-        complain(b"stun: ");
-        os::fail(path);
-        status(b"2");
+        unread(path);
         return nothing();
     }
-    let f = taken(fd, path, form, &mut file, &mut kept, raw);
+    let f = taken(fd, path, form, raw);
     libc::close(fd);
     f
 }

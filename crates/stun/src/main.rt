@@ -16,16 +16,21 @@ mod wants;
 mod write;
 
 use answers::Job;
+use answers::MOST;
 use answers::part;
-use check::same;
+use fields::position;
 use input::Form;
+use input::Found;
+use libc::STDOUT_FILENO;
 use output::complain;
+use output::complain_column;
+use output::fail;
 use output::status;
 use text::Hex;
 
-fn help(fd: i32) {
+fn help() {
     io::write_all(
-        fd,
+        STDOUT_FILENO,
         b"stun read FILE|- [--hex | --raw]\n\
         \x20   a datagram shown for a person, from raw bytes or hex text; ends with 1 where it is broken or refused\n\
         stun lines [--walk | --values | --key HEX] < FILE\n\
@@ -49,13 +54,14 @@ fn unknown(word: &[u8]) {
     complain(b"stun: not understood: ");
     complain(word);
     complain(b" (stun alone shows the commands)\n");
-    status(b"2");
+    status(2);
 }
 
-pub fn is_word(i: usize, word: &[u8]) -> bool {
+// An argument's place in a list of words.
+pub fn word_at(i: usize, list: &[u8]) -> usize {
     let mut arg = [0u8; 16];
     let n = os::arg(i, &mut arg);
-    same(&arg[..n], word)
+    position(&arg[..n], list)
 }
 
 // Refuses what stands at an argument's place.
@@ -65,45 +71,22 @@ fn refuse(i: usize) {
     unknown(&arg[..n]);
 }
 
-fn lines_of(walk: bool, values: bool) {
-    if os::arg_count() > 3 {
-        refuse(3);
-        return;
-    }
-    lines::run(
-        Job {
-            walk,
-            values,
-            keyed: false,
-        },
-        b"",
-    );
-}
-
 fn bad_key(p: usize) -> usize {
-    complain(b"stun: the key, column ");
-    io::print_decimal(2, lines::plus(p as u64, 1));
-    complain(b": not a hex digit\n");
-    status(b"2");
+    complain(b"stun: the key");
+    complain_column(lines::plus(p as u64, 1));
+    status(2);
     usize::MAX
 }
 
 fn odd_key() -> usize {
     complain(b"stun: the key has an odd number of hex digits\n");
-    status(b"2");
+    status(2);
     usize::MAX
 }
 
 // A key in hex: its size, or more than the buffer has where it is none, which has been told.
-fn key_at(i: usize, key: &mut [u8]) -> usize {
-    let mut arg = io::large_buffer();
-    let n = os::arg(i, &mut arg);
-    if os::errno() != 0 {
-        os::fail(b"stun: the key");
-        status(b"2");
-        return usize::MAX;
-    }
-    let h = text::unhex(&arg[..n], key);
+fn key_of(s: &[u8], key: &mut [u8]) -> usize {
+    let h = text::unhex(s, key);
     match h {
         Hex::Bytes(size) => size,
         Hex::Bad(p) => bad_key(p),
@@ -111,9 +94,50 @@ fn key_at(i: usize, key: &mut [u8]) -> usize {
     }
 }
 
+// Is the argument whole that was read last?
+fn is_whole(what: &[u8]) -> bool {
+    if os::errno() == 0 {
+        return true;
+    }
+    fail(what);
+    false
+}
+
+fn key_at(i: usize, key: &mut [u8]) -> usize {
+    let mut arg = io::large_buffer();
+    let n = os::arg(i, &mut arg);
+    if !is_whole(b"stun: the key") {
+        return usize::MAX;
+    }
+    key_of(&arg[..n], key)
+}
+
+// A file's name.
+pub fn path_at(i: usize, path: &mut [u8]) -> usize {
+    let n = os::arg(i, path);
+    if !is_whole(b"stun: the file's name") {
+        return usize::MAX;
+    }
+    n
+}
+
+// No more words than so many are taken.
+fn takes(count: usize) -> bool {
+    if os::arg_count() > count {
+        refuse(count);
+        return false;
+    }
+    true
+}
+
+fn lines_of(job: Job) {
+    if takes(3) {
+        lines::run(job, b"");
+    }
+}
+
 fn keyed_lines() {
-    if os::arg_count() > 4 {
-        refuse(4);
+    if !takes(4) {
         return;
     }
     let mut key = io::large_buffer();
@@ -121,48 +145,52 @@ fn keyed_lines() {
     if key.len() < n {
         return;
     }
-    lines::run(
-        Job {
-            walk: false,
-            values: false,
-            keyed: true,
-        },
-        &key[0..n],
-    );
+    lines::run(Job::Keyed, &key[0..n]);
+}
+
+fn number_name(n: u8) {
+    let name = names::number(n);
+    let letters = name.text;
+    io::write_all(STDOUT_FILENO, part(&letters, 0, name.size));
+    io::write_all(STDOUT_FILENO, b"\n");
 }
 
 fn check_datagram(d: &[u8], key: &[u8]) {
     let n = integrity::check_integrity(d, key);
-    io::write_all(1, b"integrity ");
-    io::print_decimal(1, n as u64);
-    io::write_all(1, b", ");
-    let name = names::number(n);
-    let letters = name.text;
-    io::write_all(1, part(&letters, 0, name.size));
-    io::write_all(1, b"\n");
+    io::write_all(STDOUT_FILENO, b"integrity ");
+    io::print_decimal(STDOUT_FILENO, n as u64);
+    io::write_all(STDOUT_FILENO, b", ");
+    number_name(n);
     if n != 0 {
-        status(b"1");
+        status(1);
     }
 }
 
-fn check_path(key: &[u8], raw: &mut [u8]) {
-    let mut path = io::buffer();
-    let n = os::arg(3, &mut path);
-    if os::errno() != 0 {
-        os::fail(b"stun: the file's name");
-        status(b"2");
-        return;
-    }
-    let f = input::datagram(&path[..n], Form::Told, raw);
+fn check_found(raw: &[u8], f: Found, key: &[u8]) {
     if f.good {
         check_datagram(part(raw, 0, f.size), key);
     }
 }
 
+fn check_path(path: &[u8], key: &[u8]) {
+    let mut raw = [0u8; MOST];
+    let f = input::datagram(path, Form::Told, &mut raw);
+    check_found(&raw, f, key);
+}
+
+fn check_with(key: &[u8]) {
+    let mut path = io::buffer();
+    let n = path_at(3, &mut path);
+    if path.len() < n {
+        return;
+    }
+    check_path(&path[0..n], key);
+}
+
 fn check_command() {
     if os::arg_count() != 4 {
         complain(b"stun: check takes a key in hex and a file (- for standard input)\n");
-        status(b"2");
+        status(2);
         return;
     }
     let mut key = io::large_buffer();
@@ -170,73 +198,42 @@ fn check_command() {
     if key.len() < n {
         return;
     }
-    let mut raw = [0u8; 65556];
-    check_path(&key[0..n], &mut raw);
+    check_with(&key[0..n]);
 }
 
 fn lines_command() {
     if os::arg_count() < 3 {
-        lines::run(
-            Job {
-                walk: false,
-                values: false,
-                keyed: false,
-            },
-            b"",
-        );
+        lines_of(Job::Reading);
         return;
     }
-    if is_word(2, b"--walk") {
-        lines_of(true, false);
-        return;
+    let word = word_at(2, b"--walk --values --key");
+    match word {
+        0 => lines_of(Job::Walk),
+        1 => lines_of(Job::Values),
+        2 => keyed_lines(),
+        _ => refuse(2),
     }
-    if is_word(2, b"--values") {
-        lines_of(false, true);
-        return;
-    }
-    if is_word(2, b"--key") {
-        keyed_lines();
-        return;
-    }
-    refuse(2);
 }
 
 fn write_command() {
-    if os::arg_count() > 2 {
-        refuse(2);
-        return;
+    if takes(2) {
+        write::run();
     }
-    write::run();
 }
 
 fn main() {
     if os::arg_count() < 2 {
-        help(1);
+        help();
         return;
     }
-    if is_word(1, b"lines") {
-        lines_command();
-        return;
+    let word = word_at(1, b"lines read write check help --help");
+    match word {
+        0 => lines_command(),
+        1 => read::command(),
+        2 => write_command(),
+        3 => check_command(),
+        4 => help(),
+        5 => help(),
+        _ => refuse(1),
     }
-    if is_word(1, b"read") {
-        read::command();
-        return;
-    }
-    if is_word(1, b"write") {
-        write_command();
-        return;
-    }
-    if is_word(1, b"check") {
-        check_command();
-        return;
-    }
-    if is_word(1, b"help") {
-        help(1);
-        return;
-    }
-    if is_word(1, b"--help") {
-        help(1);
-        return;
-    }
-    refuse(1);
 }

@@ -1,136 +1,181 @@
 // Output through one lent buffer, which is written when it is full.
+use crate::answers::minus;
+use crate::answers::part;
+use crate::answers::plus;
 use libc::STDERR_FILENO;
 use libc::STDOUT_FILENO;
 
-// How much of the buffer waits to be written, whether every write went through, and whether some input was at fault.
-pub struct Out {
-    pub used: usize,
-    pub ok: bool,
-    pub fault: bool,
+// The buffer's front is its own: how many bytes wait behind it to be written, whether a write failed, and whether some
+// input was at fault. Noughts are a buffer of which nothing was said yet.
+const FRONT: usize = 6;
+
+const FAILED: usize = 4;
+
+const FAULT: usize = 5;
+
+pub const ROOM: usize = 65542;
+
+fn waiting(buf: &[u8]) -> usize {
+    numbers::u32_at(buf, 0) as usize
 }
 
-pub fn start() -> Out {
-    Out {
-        used: 0,
-        ok: true,
-        fault: false,
+fn wait(buf: &mut [u8], n: usize) {
+    if 65536 < n {
+        return;
+    }
+    numbers::put_u32(buf, 0, n as u32);
+}
+
+fn is_set(buf: &[u8], at: usize) -> bool {
+    if buf.len() <= at {
+        return false;
+    }
+    buf[at] != 0
+}
+
+fn set(buf: &mut [u8], at: usize) {
+    if at < buf.len() {
+        buf[at] = 1;
     }
 }
 
 // Notes that some input was at fault.
-pub fn faulty(o: Out) -> Out {
-    Out {
-        used: o.used,
-        ok: o.ok,
-        fault: true,
-    }
+pub fn faulty(buf: &mut [u8; ROOM]) {
+    set(buf, FAULT);
+}
+
+// Did every write go through?
+pub fn is_fine(buf: &[u8]) -> bool {
+    !is_set(buf, FAILED)
 }
 
 // After a write that failed nothing more is written.
-fn write(o: Out, s: &[u8]) -> bool {
-    if o.ok {
+fn goes(buf: &[u8], s: &[u8]) -> bool {
+    if is_fine(buf) {
         return io::write_all(STDOUT_FILENO, s);
     }
     false
 }
 
-pub fn flush(buf: &[u8], o: Out) -> Out {
-    let used = o.used;
-    if buf.len() < used {
-        return o;
-    }
-    Out {
-        used: 0,
-        ok: write(o, &buf[0..used]),
-        fault: o.fault,
+fn noted(buf: &mut [u8], went: bool) {
+    if !went {
+        set(buf, FAILED);
     }
 }
 
-fn room(buf: &[u8], o: Out, n: usize) -> Out {
-    let used = o.used;
-    if used <= buf.len() {
-        if n <= buf.len() - used {
-            return o;
-        }
-    }
-    flush(buf, o)
+pub fn flush(buf: &mut [u8]) {
+    let went = goes(buf, part(buf, FRONT, waiting(buf)));
+    noted(buf, went);
+    wait(buf, 0);
 }
 
-pub fn put(buf: &mut [u8], o: Out, s: &[u8]) -> Out {
-    let o = room(buf, o, s.len());
-    let used = o.used;
-    if buf.len() < used {
-        return o;
-    }
-    if buf.len() - used < s.len() {
-        return Out {
-            used,
-            ok: write(o, s),
-            fault: o.fault,
-        };
-    }
-    numbers::put_bytes(buf, used, s);
-    Out {
-        used: used + s.len(),
-        ok: o.ok,
-        fault: o.fault,
-    }
+// Is there room for so many more?
+fn has_room(buf: &[u8], n: usize) -> bool {
+    n <= minus(buf.len(), plus(FRONT, waiting(buf)))
 }
 
-pub fn decimal(buf: &mut [u8], o: Out, n: u64) -> Out {
+// What is longer than the whole buffer is written at once.
+fn add(buf: &mut [u8], s: &[u8]) {
+    let n = waiting(buf);
+    if numbers::put_bytes(buf, plus(FRONT, n), s) {
+        wait(buf, plus(n, s.len()));
+        return;
+    }
+    let went = goes(buf, s);
+    noted(buf, went);
+}
+
+pub fn put(buf: &mut [u8; ROOM], s: &[u8]) {
+    if !has_room(buf, s.len()) {
+        flush(buf);
+    }
+    add(buf, s);
+}
+
+// One character.
+pub fn sign(buf: &mut [u8; ROOM], b: u8) {
+    let one = [b];
+    put(buf, &one);
+}
+
+pub fn decimal(buf: &mut [u8; ROOM], n: u64) {
     let mut digits = [0u8; 20];
     let k = io::decimal(n, &mut digits);
-    put(buf, o, &digits[..k])
+    put(buf, &digits[..k]);
 }
 
 // A number in hex, with at least so many digits.
-pub fn word(buf: &mut [u8], o: Out, n: u64, width: usize) -> Out {
+pub fn word(buf: &mut [u8; ROOM], n: u64, width: usize) {
     let mut digits = [0u8; 16];
     let k = io::hex(n, width, &mut digits);
-    put(buf, o, &digits[..k])
+    put(buf, &digits[..k]);
+}
+
+// The first bytes in hex, up to 128; answers how many.
+fn some_hex(buf: &mut [u8; ROOM], d: &[u8]) -> usize {
+    let mut digits = [0u8; 256];
+    let n = text::show(d, &mut digits);
+    if 128 < n {
+        return 0;
+    }
+    put(buf, &digits[0..n * 2]);
+    n
 }
 
 // Bytes in hex.
-pub fn hex(buf: &mut [u8], o: Out, d: &[u8]) -> Out {
-    let mut digits = [0u8; 256];
-    let mut o = o;
+pub fn hex(buf: &mut [u8; ROOM], d: &[u8]) {
     let mut at = 0;
-    while at < d.len() {
-        let n = text::show(&d[at..], &mut digits);
+    let mut left = d.len();
+    while left > 0 {
+        let n = some_hex(buf, part(d, at, left));
         if n == 0 {
-            return o;
+            return;
         }
-        if 128 < n {
-            return o;
+        if left < n {
+            return;
         }
-        if d.len() - at < n {
-            return o;
-        }
-        o = put(buf, o, &digits[0..n * 2]);
-        at += n;
+        at = plus(at, n);
+        left -= n;
     }
-    o
 }
 
 pub fn complain(s: &[u8]) {
     io::write_all(STDERR_FILENO, s);
 }
 
+pub fn complain_number(before: &[u8], n: u64) {
+    complain(before);
+    io::print_decimal(STDERR_FILENO, n);
+}
+
+pub fn complain_column(n: u64) {
+    complain_number(b", column ", n);
+    complain(b": not a hex digit\n");
+}
+
 // What the launcher is to end with: a program of this kit always ends with 0.
-pub fn status(digit: &[u8]) {
-    io::write_all(9, digit);
+pub fn status(n: u8) {
+    if 9 < n {
+        return;
+    }
+    let digit = [b'0' + n];
+    io::write_all(9, &digit);
+}
+
+// Tells why the last call of the system failed, behind what it was about.
+pub fn fail(what: &[u8]) {
+    os::fail(what);
+    status(2);
 }
 
 // Writes what is left. A write that failed is told, and the status is 2; else 1 where some input was at fault.
-pub fn finish(buf: &[u8], o: Out) {
-    let o = flush(buf, o);
-    let ok = o.ok;
-    if ok {
-        if o.fault {
-            status(b"1");
-        }
+pub fn finish(buf: &mut [u8]) {
+    flush(buf);
+    if !is_fine(buf) {
+        fail(b"stun: standard output");
         return;
     }
-    os::fail(b"stun: standard output");
-    status(b"2");
+    if is_set(buf, FAULT) {
+        status(1);
+    }
 }

@@ -5,6 +5,7 @@ use crate::answers::plus;
 use crate::say::decimal;
 use crate::say::hex;
 use crate::say::say;
+use crate::say::sign;
 use crate::say::word;
 use names::Name;
 use net::Family;
@@ -95,10 +96,10 @@ fn escaped(one: &[u8]) {
 // A quote and a backslash stand behind a backslash.
 fn ordinary(b: u8, one: &[u8]) {
     if b == 34 {
-        say(b"\\");
+        sign(b'\\');
     }
     if b == 92 {
-        say(b"\\");
+        sign(b'\\');
     }
     say(one);
 }
@@ -132,26 +133,26 @@ fn characters(s: &[u8]) {
 }
 
 fn quoted(s: &[u8]) {
-    say(b"\"");
+    sign(b'"');
     characters(s);
-    say(b"\"");
+    sign(b'"');
 }
 
 fn two_of_four(high: u8, low: u8) {
     decimal(high as u64);
-    say(b".");
+    sign(b'.');
     decimal(low as u64);
 }
 
 fn ipv4(ip: &[u8]) {
     two_of_four(byte_at(ip, 0), byte_at(ip, 1));
-    say(b".");
+    sign(b'.');
     two_of_four(byte_at(ip, 2), byte_at(ip, 3));
 }
 
 fn group(n: u16, first: bool) {
     if !first {
-        say(b":");
+        sign(b':');
     }
     word(n as u64, 1);
 }
@@ -200,22 +201,22 @@ fn ip(family: Family, bytes: &[u8]) {
     match family {
         Family::Ipv4 => ipv4(bytes),
         Family::Ipv6 => {
-            say(b"[");
+            sign(b'[');
             ipv6(bytes);
-            say(b"]");
+            sign(b']');
         }
     }
 }
 
 fn address(family: Family, port: u16, bytes: [u8; 16]) {
     ip(family, &bytes);
-    say(b":");
+    sign(b':');
     decimal(port as u64);
 }
 
 fn meaning(n: Name) {
     if n.size != 0 {
-        say(b" ");
+        sign(b' ');
         named(n);
     }
 }
@@ -273,7 +274,7 @@ fn raw(d: &[u8], at: usize, kind: u16, value: &[u8], colour: bool) {
 
 fn list(value: &[u8]) {
     if value.len() == 0 {
-        say(b"-");
+        sign(b'-');
         return;
     }
     types(value);

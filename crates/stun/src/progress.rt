@@ -1,5 +1,6 @@
 // How far long work is: on a terminal's standard error, once a second, where the answers go elsewhere.
 use crate::output::complain;
+use crate::output::complain_number;
 use libc::STDERR_FILENO;
 use libc::STDOUT_FILENO;
 
@@ -33,10 +34,8 @@ pub fn begin() -> Watch {
 }
 
 fn tell(done: u64, more: u64) {
-    complain(b"\r");
-    io::print_decimal(STDERR_FILENO, done);
-    complain(b" lines, ");
-    io::print_decimal(STDERR_FILENO, more);
+    complain_number(b"\r", done);
+    complain_number(b" lines, ", more);
     complain(b" in the last second ");
 }
 
@@ -65,8 +64,7 @@ pub fn tick(w: Watch, done: u64) -> Watch {
 
 pub fn end(w: Watch, done: u64) {
     if w.on {
-        complain(b"\r");
-        io::print_decimal(STDERR_FILENO, done);
+        complain_number(b"\r", done);
         complain(b" lines, done                    \n");
     }
 }

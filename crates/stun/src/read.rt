@@ -1,4 +1,5 @@
 // stun read: one datagram, shown for a person. Each line but the first stands behind a line end.
+use crate::answers::MOST;
 use crate::answers::minus;
 use crate::answers::part;
 use crate::answers::plus;
@@ -6,9 +7,9 @@ use crate::dump::rows;
 use crate::input;
 use crate::input::Form;
 use crate::input::Found;
-use crate::is_word;
 use crate::output::complain;
 use crate::output::status;
+use crate::path_at;
 use crate::person::bad;
 use crate::person::column;
 use crate::person::good;
@@ -21,6 +22,8 @@ use crate::say::decimal;
 use crate::say::end;
 use crate::say::hex;
 use crate::say::say;
+use crate::say::sign;
+use crate::word_at;
 use attribute::Walk;
 use libc::STDOUT_FILENO;
 use message::Answer;
@@ -60,14 +63,14 @@ fn head(class: MessageClass, method: Method, id: TransactionId, total: u64) {
 }
 
 fn one(d: &[u8], at: usize, kind: u16, value: &[u8], pad: &[u8], id: TransactionId, colour: bool) {
-    say(b"\n");
+    sign(b'\n');
     row(at, kind, value.len());
     said(d, at, kind, value, id, colour);
     padding(pad);
 }
 
 fn cut(at: usize, colour: bool) {
-    say(b"\n");
+    sign(b'\n');
     column(at, 5);
     bad(colour, b"  cut off");
 }
@@ -129,7 +132,7 @@ fn opened(
 // The bytes that the number is about, where there are bytes.
 fn shown(d: &[u8], n: u8, place: usize, colour: bool) {
     if d.len() != 0 {
-        say(b"\n");
+        sign(b'\n');
         rows(d, display::blame(d, n, place), colour);
     }
 }
@@ -142,7 +145,7 @@ fn told(d: &[u8], n: u8, place: usize, colour: bool) {
     say(b" says what to do)");
     shown(d, n, place, colour);
     end();
-    status(b"1");
+    status(1);
 }
 
 fn counted(count: usize) {
@@ -213,31 +216,31 @@ fn found(raw: &[u8], f: Found) {
     }
 }
 
-// The file that an argument names.
-fn file_at(i: usize, form: Form) {
-    let mut path = io::buffer();
-    let n = os::arg(i, &mut path);
-    if os::errno() != 0 {
-        os::fail(b"stun: the file's name");
-        status(b"2");
-        return;
-    }
-    let mut raw = [0u8; 65556];
-    let f = input::datagram(&path[..n], form, &mut raw);
+fn file(path: &[u8], form: Form) {
+    let mut raw = [0u8; MOST];
+    let f = input::datagram(path, form, &mut raw);
     found(&raw, f);
 }
 
+// The file that an argument names.
+fn file_at(i: usize, form: Form) {
+    let mut path = io::buffer();
+    let n = path_at(i, &mut path);
+    if path.len() < n {
+        return;
+    }
+    file(&path[0..n], form);
+}
+
 // A form before or behind the file.
-fn with_form(i: usize, file: usize) -> bool {
-    if is_word(i, b"--hex") {
-        file_at(file, Form::Hex);
-        return true;
+fn with_form(i: usize, at: usize) -> bool {
+    let form = word_at(i, b"--hex --raw");
+    match form {
+        0 => file_at(at, Form::Hex),
+        1 => file_at(at, Form::Raw),
+        _ => return false,
     }
-    if is_word(i, b"--raw") {
-        file_at(file, Form::Raw);
-        return true;
-    }
-    false
+    true
 }
 
 pub fn command() {
@@ -255,5 +258,5 @@ pub fn command() {
         }
     }
     complain(b"stun: read takes a file (- for standard input), and --hex or --raw\n");
-    status(b"2");
+    status(2);
 }

@@ -1,15 +1,22 @@
 // Output for a person, piece by piece: a write that fails makes the status 2, and the last one tells why.
+use crate::output::fail;
 use crate::output::status;
 use libc::STDOUT_FILENO;
 
 fn noted(went: bool) {
     if !went {
-        status(b"2");
+        status(2);
     }
 }
 
 pub fn say(s: &[u8]) {
     noted(io::write_all(STDOUT_FILENO, s));
+}
+
+// One character.
+pub fn sign(b: u8) {
+    let one = [b];
+    say(&one);
 }
 
 pub fn decimal(n: u64) {
@@ -28,7 +35,7 @@ fn byte(b: u8) {
 // Bytes in hex, and a dash for none.
 pub fn hex(s: &[u8]) {
     if s.len() == 0 {
-        say(b"-");
+        sign(b'-');
         return;
     }
     let mut i = 0;
@@ -43,6 +50,5 @@ pub fn end() {
     if io::write_all(STDOUT_FILENO, b"\n") {
         return;
     }
-    os::fail(b"stun: standard output");
-    status(b"2");
+    fail(b"stun: standard output");
 }

@@ -1,14 +1,12 @@
-use mathlib.Core.Path.{_≡_}
-use lib.ListN.{length}
 use borrow.Author.Needs.{needs}
 use Rattle.stun.proofs.answers.values.Statement.{statement}
 use Rattle.stun.proofs.answers.values.Tie as tie
 
 abbrev Inv-loop : tie.InvT-loop
-Inv-loop d buf₀ id o₀ none₀ place₀ left₀ buf o none place left = (length buf ≡ length buf₀)
+Inv-loop d buf₀ id none₀ place₀ left₀ buf none place left = Unit {0}
 
 abbrev μ-loop : tie.MeasureT-loop
-μ-loop d buf₀ id o₀ none₀ place₀ left₀ buf o none place left = left
+μ-loop d buf₀ id none₀ place₀ left₀ buf none place left = left
 
 pub values-spec : {M : Type 1} → statement M
 values-spec =
@@ -22,11 +20,9 @@ values-spec =
     (λ c. search needs)
     (λ c κs. search needs)
     (λ c. search needs)
-    (λ c. search needs)
     (λ c κs. search needs)
     (λ c κs. search needs)
     (λ c κs. search needs)
-    (λ c. search needs)
     (λ c. search needs)
     (λ c. search needs)
     (λ c. search needs)

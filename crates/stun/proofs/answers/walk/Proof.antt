@@ -1,14 +1,12 @@
-use mathlib.Core.Path.{_≡_}
-use lib.ListN.{length}
 use borrow.Author.Needs.{needs}
 use Rattle.stun.proofs.answers.walk.Statement.{statement}
 use Rattle.stun.proofs.answers.walk.Tie as tie
 
 abbrev Inv-loop : tie.InvT-loop
-Inv-loop d buf₀ o₀ place₀ left₀ buf o place left = (length buf ≡ length buf₀)
+Inv-loop d buf₀ place₀ left₀ buf place left = Unit {0}
 
 abbrev μ-loop : tie.MeasureT-loop
-μ-loop d buf₀ o₀ place₀ left₀ buf o place left = left
+μ-loop d buf₀ place₀ left₀ buf place left = left
 
 pub walk-spec : {M : Type 1} → statement M
 walk-spec =
@@ -21,9 +19,7 @@ walk-spec =
     (λ c. search needs)
     (λ c κs. search needs)
     (λ c. search needs)
-    (λ c. search needs)
     (λ c κs. search needs)
-    (λ c. search needs)
     (λ c. search needs)
     (λ c. search needs)
     (λ c. search needs)

@@ -1,11 +1,9 @@
-use mathlib.Core.Path.{_≡_}
-use lib.ListN.{length}
 use borrow.Author.Needs.{needs}
 use Rattle.stun.proofs.lines.all.Statement.{statement}
 use Rattle.stun.proofs.lines.all.Tie as tie
 
 abbrev Inv-loop : tie.InvT-loop
-Inv-loop job key input₀ raw₀ buf₀ w₀ s₀ left₀ input raw buf w s left = (length input ≡ length input₀) × (length raw ≡ length raw₀) × (length buf ≡ length buf₀)
+Inv-loop job key input₀ raw₀ buf₀ w₀ s₀ left₀ input raw buf w s left = Unit {0}
 
 abbrev μ-loop : tie.MeasureT-loop
 μ-loop job key input₀ raw₀ buf₀ w₀ s₀ left₀ input raw buf w s left = left
@@ -18,16 +16,14 @@ all-spec =
     μ-loop
     (λ c κs. search needs)
     (λ c κs. search needs)
-    (λ c κs. search needs)
     (λ c. search needs)
     (λ c κs. search needs)
-    (λ c κs. search needs)
-    (λ c. search needs)
-    (λ c. search needs)
-    (λ c. search needs)
     (λ c κs. search needs)
     (λ c κs. search needs)
     (λ c. search needs)
     (λ c. search needs)
     (λ c. search needs)
+    (λ c κs. search needs)
+    (λ c κs. search needs)
+    (λ c κs. search needs)
     (λ c. search needs))

@@ -1,11 +1,9 @@
-use mathlib.Core.Path.{_≡_}
-use lib.ListN.{length}
 use borrow.Author.Needs.{needs}
 use Rattle.stun.proofs.lines.lines.Statement.{statement}
 use Rattle.stun.proofs.lines.lines.Tie as tie
 
 abbrev Inv-loop : tie.InvT-loop
-Inv-loop s job key raw₀ buf₀ c₀ left₀ raw buf c left = (length raw ≡ length raw₀) × (length buf ≡ length buf₀)
+Inv-loop s job key raw₀ buf₀ c₀ left₀ raw buf c left = Unit {0}
 
 abbrev μ-loop : tie.MeasureT-loop
 μ-loop s job key raw₀ buf₀ c₀ left₀ raw buf c left = left
@@ -19,17 +17,11 @@ lines-spec =
     (λ c. search needs)
     (λ c κs. search needs)
     (λ c. search needs)
-    (λ c. search needs)
-    (λ c. search needs)
-    (λ c. search needs)
-    (λ c. search needs)
-    (λ c. search needs)
-    (λ c. search needs)
-    (λ c. search needs)
-    (λ c. search needs)
+    (λ c κs. search needs)
     (λ c κs. search needs)
     (λ c. search needs)
-    (λ c. search needs)
+    (λ c κs. search needs)
+    (λ c κs. search needs)
     (λ c. search needs)
     (λ c. search needs)
     (λ c. search needs)

@@ -1,11 +1,9 @@
-use mathlib.Core.Path.{_≡_}
-use lib.ListN.{length}
 use borrow.Author.Needs.{needs}
 use Rattle.stun.proofs.write.all.Statement.{statement}
 use Rattle.stun.proofs.write.all.Tie as tie
 
 abbrev Inv-loop : tie.InvT-loop
-Inv-loop input₀ bytes₀ store₀ buf₀ s₀ left₀ input bytes store buf s left = (length input ≡ length input₀) × (length bytes ≡ length bytes₀) × (length store ≡ length store₀) × (length buf ≡ length buf₀)
+Inv-loop input₀ bytes₀ store₀ buf₀ s₀ left₀ input bytes store buf s left = Unit {0}
 
 abbrev μ-loop : tie.MeasureT-loop
 μ-loop input₀ bytes₀ store₀ buf₀ s₀ left₀ input bytes store buf s left = left
@@ -17,15 +15,10 @@ all-spec =
     Inv-loop
     μ-loop
     (λ c κs. search needs)
-    (λ c κs. search needs)
     (λ c. search needs)
     (λ c κs. search needs)
     (λ c. search needs)
     (λ c. search needs)
     (λ c. search needs)
     (λ c κs. search needs)
-    (λ c. search needs)
-    (λ c. search needs)
-    (λ c. search needs)
-    (λ c. search needs)
     (λ c. search needs))
