@@ -2,6 +2,7 @@
 use crate::output::ROOM;
 use crate::output::decimal;
 use crate::output::hex;
+use crate::output::number;
 use crate::output::put;
 use crate::output::sign;
 use crate::output::word;
@@ -23,12 +24,6 @@ pub enum Job {
     Walk,
     Values,
     Keyed,
-}
-
-// A number and the sign behind it.
-fn number(buf: &mut [u8; ROOM], n: u64, behind: u8) {
-    decimal(buf, n);
-    sign(buf, behind);
 }
 
 fn id_hex(buf: &mut [u8; ROOM], id: TransactionId) {
@@ -70,9 +65,9 @@ fn broken(
     decimal(buf, place as u64);
 }
 
-fn refused(buf: &mut [u8; ROOM], number: u8) {
+fn refused(buf: &mut [u8; ROOM], n: u8) {
     put(buf, b"refused ");
-    decimal(buf, number as u64);
+    decimal(buf, n as u64);
 }
 
 fn reading(d: &[u8], buf: &mut [u8; ROOM]) {

@@ -1,5 +1,4 @@
 // Output through one lent buffer, which is written when it is full.
-use crate::answers::minus;
 use crate::answers::part;
 use crate::answers::plus;
 use libc::STDERR_FILENO;
@@ -69,16 +68,20 @@ pub fn flush(buf: &mut [u8]) {
     wait(buf, 0);
 }
 
-// Is there room for so many more?
-fn has_room(buf: &[u8], n: usize) -> bool {
-    n <= minus(buf.len(), plus(FRONT, waiting(buf)))
-}
-
-// What is longer than the whole buffer is written at once.
-fn add(buf: &mut [u8], s: &[u8]) {
+// Lets more wait; false where there is no room for it.
+fn add(buf: &mut [u8], s: &[u8]) -> bool {
     let n = waiting(buf);
     if numbers::put_bytes(buf, plus(FRONT, n), s) {
         wait(buf, plus(n, s.len()));
+        return true;
+    }
+    false
+}
+
+// What is longer than the whole buffer is written at once.
+fn put_after(buf: &mut [u8], s: &[u8]) {
+    flush(buf);
+    if add(buf, s) {
         return;
     }
     let went = goes(buf, s);
@@ -86,10 +89,10 @@ fn add(buf: &mut [u8], s: &[u8]) {
 }
 
 pub fn put(buf: &mut [u8; ROOM], s: &[u8]) {
-    if !has_room(buf, s.len()) {
-        flush(buf);
+    if add(buf, s) {
+        return;
     }
-    add(buf, s);
+    put_after(buf, s);
 }
 
 // One character.
@@ -102,6 +105,24 @@ pub fn decimal(buf: &mut [u8; ROOM], n: u64) {
     let mut digits = [0u8; 20];
     let k = io::decimal(n, &mut digits);
     put(buf, &digits[..k]);
+}
+
+// A number's digits and the sign behind them, by one call where there is room for both.
+fn digits_and(buf: &mut [u8; ROOM], digits: &mut [u8; 20], n: u64, behind: u8) {
+    let k = io::decimal(n, digits);
+    if k < 20 {
+        digits[k] = behind;
+        put(buf, part(digits, 0, k + 1));
+        return;
+    }
+    put(buf, digits);
+    sign(buf, behind);
+}
+
+// A number and the sign behind it.
+pub fn number(buf: &mut [u8; ROOM], n: u64, behind: u8) {
+    let mut digits = [0u8; 20];
+    digits_and(buf, &mut digits, n, behind);
 }
 
 // A number in hex, with at least so many digits.
