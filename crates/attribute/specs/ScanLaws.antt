@@ -19,13 +19,14 @@ use Rattle.attribute.specs.declared.Scan.the-variants.{Passed, Fault}
 abbrev pub found : List ℕ → ℕ → ℕ → ℕ → ℕ → Attr
 found d k v n x = record { kind = k; value = take n (drop v d); pad = take (x - v - n) (drop (v + n) d) }
 
-pub record Scanning (f : ℕ → Attr → ℕ) (d : List ℕ) (at n : ℕ) : Type 0 where
+-- behind n attributes, at a place from where judging comes to t
+pub record Scanning (f : ℕ → Attr → ℕ) (d : List ℕ) (at n : ℕ) (t : Scan) : Type 0 where
   pub low : 20 ≤ at
   pub inside : at ≤ length d
   pub few : n ≤ at
-  pub same : scan f n at (parse 0 (drop at d)) ≡ scanned f d
+  pub same : scan f n at (parse 0 (drop at d)) ≡ t
 
-pub start : (f : ℕ → Attr → ℕ) (d : List ℕ) → 20 ≤ length d → Scanning f d 20 0
+pub start : (f : ℕ → Attr → ℕ) (d : List ℕ) → 20 ≤ length d → Scanning f d 20 0 (scanned f d)
 unfolding scanned
 start f d h = record { low = omega arith; inside = h; few = omega arith; same = refl }
 
@@ -36,7 +37,8 @@ long k {d} {p} {q} {v} {n} {x} a =
     let j : length (take (x - v - n) (drop (v + n) d)) ≡ x - v - n = simp (length-take, length-drop) (omega (arith, a)) in
     simp length-append (omega (arith, i, j, a))
 
-module _ {f : ℕ → Attr → ℕ} {d : List ℕ} {at n q k v s x : ℕ} {w : Walk} (g : Scanning f d at n) (i : w ≡ Attribute q k v s x) (e : w ≡ stepAt d at) where
+module _ {f : ℕ → Attr → ℕ} {d : List ℕ} {at n q k v s x : ℕ} {t : Scan} {w : Walk} (g : Scanning f d at n t) (i : w ≡ Attribute q k v s x)
+    (e : w ≡ stepAt d at) where
   pub inside : Ahead d at q v s x
   inside = ahead (seen (sym i ∙ e))
 
@@ -49,7 +51,7 @@ module _ {f : ℕ → Attr → ℕ} {d : List ℕ} {at n q k v s x : ℕ} {w : W
   here : scan f n at (parse 0 (drop at d)) ≡ scan f n at (more (found d k v s x) (parse 0 (drop x d)))
   here = ap (scan f n at) (body-seen d at (sym i ∙ e))
 
-  pub turn : f at (found d k v s x) ≡ 0 → Scanning f d x (n + 1)
+  pub turn : f at (found d k v s x) ≡ 0 → Scanning f d x (n + 1) t
   unfolding scan
   turn z = record {
     low = omega (arith, g .low, inside);
@@ -60,11 +62,20 @@ module _ {f : ℕ → Attr → ℕ} {d : List ℕ} {at n q k v s x : ℕ} {w : W
         ∙ sym (here ∙ simp (eq-eqb (f at (found d k v s x)) 0 z)) ∙ g .same;
   }
 
-  pub faulty : (f at (found d k v s x) ≡ 0 → ⊥) → Fault (f at (found d k v s x)) at ≡ scanned f d
+  pub faulty : (f at (found d k v s x) ≡ 0 → ⊥) → Fault (f at (found d k v s x)) at ≡ t
   unfolding scan
   faulty z = sym (here ∙ simp (ne-eqb (f at (found d k v s x)) 0 z)) ∙ g .same
 
-pub passed : {f : ℕ → Attr → ℕ} {d : List ℕ} {at n q : ℕ} {w : Walk} → Scanning f d at n → w ≡ End q → w ≡ stepAt d at → Passed n ≡ scanned f d
+  -- the same by a fault that code has found
+  module _ {r : ℕ} (z : r ≡ f at (found d k v s x)) where
+    pub on : r ≡ 0 → Scanning f d x (n + 1) t
+    on y = turn (sym z ∙ y)
+
+    pub decides : (r ≡ 0 → ⊥) → Fault r at ≡ t
+    decides y = ap (λ (m : ℕ). Fault m at) z ∙ faulty (λ u. y (z ∙ u))
+
+pub passed : {f : ℕ → Attr → ℕ} {d : List ℕ} {at n q : ℕ} {t : Scan} {w : Walk}
+    → Scanning f d at n t → w ≡ End q → w ≡ stepAt d at → Passed n ≡ t
 unfolding scan
 passed {f} {d} {at} {n} g i e = sym (ap (scan f n at) (body-seen d at (sym i ∙ e))) ∙ g .same
 
@@ -73,7 +84,8 @@ unfolding scan
 cut-scan f n p [] h = absurd (omega arith)
 cut-scan f n p (b ∷ r) h = refl
 
-pub cut : {f : ℕ → Attr → ℕ} {d : List ℕ} {at n q : ℕ} {w : Walk} → Scanning f d at n → w ≡ Cut q → w ≡ stepAt d at → Fault 10 q ≡ scanned f d
+pub cut : {f : ℕ → Attr → ℕ} {d : List ℕ} {at n q : ℕ} {t : Scan} {w : Walk}
+    → Scanning f d at n t → w ≡ Cut q → w ≡ stepAt d at → Fault 10 q ≡ t
 cut {f} {d} {at} {n} {q} g i e =
     let s : (q ≡ at) × (at < length d) = cut-short (seen (sym i ∙ e)) (g .inside) in
     let b : scan f n at (parse 0 (drop at d)) ≡ scan f n at (stop (drop q d)) = ap (scan f n at) (body-seen d at (sym i ∙ e)) in

@@ -12,10 +12,13 @@ use Rattle.header.specs.HeaderLaws.{Said, said, Not, refused, long}
 use Rattle.header.specs.declared.Header.{Header}
 use Rattle.header.specs.declared.Head.the-variants as head
 use Rattle.attribute.specs.Scan.{scanned}
+use Rattle.attribute.specs.ScanLaws.{Scanning}
 use Rattle.attribute.specs.declared.Scan.{Scan}
 use Rattle.attribute.specs.declared.Scan.the-variants.{Passed, Fault}
 use Rattle.rfc5389.specs.Rows.{rfc5389}
-use Rattle.message.specs.Reading.{valueFaults, printFaults, andThen, outcome, answered, readingOf}
+use Rattle.fingerprints.specs.Fingerprints.{printFaults, printsFrom}
+use Rattle.fingerprints.specs.FingerprintsLaws.{comes-to}
+use Rattle.message.specs.Reading.{valueFaults, andThen, outcome, answered, readingOf}
 use Rattle.message.specs.declared.Answer.the-variants.{Whole, Broken, Refused}
 
 module _ (d : List ℕ) {s : Scan} (e : s ≡ scanned (valueFaults rfc5389) d) where
@@ -23,9 +26,10 @@ module _ (d : List ℕ) {s : Scan} (e : s ≡ scanned (valueFaults rfc5389) d) w
   unfolding outcome
   first f = f ∙ ap (λ (x : Scan). andThen x (scanned (printFaults d) d)) (sym f ∙ e)
 
-  pub second : {t : Scan} {n : ℕ} → s ≡ Passed n → t ≡ scanned (printFaults d) d → t ≡ outcome rfc5389 d
+  pub second : {t : Scan} {n p k : ℕ} → s ≡ Passed n → Scanning (printFaults d) d p k (scanned (printFaults d) d) → t ≡ printsFrom d p k
+      → t ≡ outcome rfc5389 d
   unfolding outcome
-  second f g = g ∙ ap (λ (x : Scan). andThen x (scanned (printFaults d) d)) (sym f ∙ e)
+  second f g h = comes-to g h ∙ ap (λ (x : Scan). andThen x (scanned (printFaults d) d)) (sym f ∙ e)
 
 module _ (d : List ℕ) {h : Header} (e : h ≡ headerOf d) where
   pub read-refused : {k : ℕ} → h .head ≡ head.Refused k → record { answer = Refused k; id = h .id } ≡ readingOf rfc5389 d

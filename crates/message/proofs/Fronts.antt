@@ -10,10 +10,11 @@ use Rattle.base.specs.Choice.{pick}
 use Rattle.attribute.specs.Walk.{stepAt}
 use Rattle.attribute.specs.WalkLaws.{ahead, seen}
 use Rattle.attribute.specs.ScanLaws.{found, Scanning, turn}
+use Rattle.attribute.specs.declared.Scan.{Scan}
 use Rattle.attribute.specs.declared.Walk.{Walk}
 use Rattle.attribute.specs.declared.Walk.the-variants.{Attribute}
+use Rattle.fingerprints.specs.Fingerprints.{printFault, printFaults}
 use Rattle.message.specs.Front.{pastOf}
-use Rattle.message.specs.Reading.{printFault, printFaults}
 use Rattle.message.specs.declared.Front.{Front}
 
 module _ (f : Front) (p k x : ℕ) where
@@ -38,15 +39,16 @@ module _ (d : List ℕ) (at : ℕ) {q k v s x : ℕ} {w : Walk} (i : w ≡ Attri
   unfolding printFaults printFault
   none h = simp (ne-eqb k 0x8028 h)
 
-  pub front-turn : (f : Front) {r : Front} → Scanning (printFaults d) d (f .at) (f .count) → r ≡ pastOf f at k x
-      → Scanning (printFaults d) d (r .at) (r .count)
+  pub front-turn : (f : Front) {r : Front} {t : Scan} → Scanning (printFaults d) d (f .at) (f .count) t → r ≡ pastOf f at k x
+      → Scanning (printFaults d) d (r .at) (r .count) t
   unfolding pastOf
-  front-turn f {r} g h = subst (λ (y : Front). Scanning (printFaults d) d (y .at) (y .count)) (sym h) (go (eqb (f .at) at) (eqb k 0x8028) refl refl)
+  front-turn f {r} {t} g h =
+      subst (λ (y : Front). Scanning (printFaults d) d (y .at) (y .count) t) (sym h) (go (eqb (f .at) at) (eqb k 0x8028) refl refl)
     where
       go : (a b : Bool) → eqb (f .at) at ≡ a → eqb k 0x8028 ≡ b
           → Scanning (printFaults d) d (pick {A = Front} a (pick b f (record { at = x; count = f .count + 1 })) f .at)
-          (pick {A = Front} a (pick b f (record { at = x; count = f .count + 1 })) f .count)
+          (pick {A = Front} a (pick b f (record { at = x; count = f .count + 1 })) f .count) t
       go false b y z = g
       go true true y z = g
       go true false y z =
-          turn (subst (λ (p : ℕ). Scanning (printFaults d) d p (f .count)) (eqb-true (f .at) at y) g) i e (none (eqb-false k 0x8028 z))
+          turn (subst (λ (p : ℕ). Scanning (printFaults d) d p (f .count) t) (eqb-true (f .at) at y) g) i e (none (eqb-false k 0x8028 z))

@@ -1,6 +1,4 @@
-mod Faults
 mod Fronts
-mod Runs
 mod Scans
 mod Answers
 mod Determined

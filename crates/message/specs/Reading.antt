@@ -1,11 +1,10 @@
 -- The reading of a datagram: number, class, method, ID, count, place, in the order of the checks (docs/SCOPE.md, "Reading a datagram").
-use Prim.Native.Nat.{ℕ, _+_, _-_}
+use Prim.Native.Nat.{ℕ}
 use mathlib.Core.List.{List}
-use lib.ListN.{length, replicate}
-use lib.Dec.{ltb, eqb}
+use lib.ListN.{replicate}
+use lib.Dec.{eqb}
 use Rattle.base.specs.Choice.{pick}
-use Rattle.base.specs.Same.{same}
-use Rattle.numbers.specs.Numbers.{be16, four}
+use Rattle.numbers.specs.Numbers.{be16}
 use Rattle.wire.specs.TypeNumber.{classOf, methodOf, classNumber, classNumbered}
 use Rattle.wire.specs.declared.method.Method.{Method}
 use Rattle.wire.specs.declared.types.MessageClass.{MessageClass}
@@ -16,7 +15,7 @@ use Rattle.attribute.specs.declared.Scan.{Scan}
 use Rattle.attribute.specs.declared.Scan.the-variants.{Passed, Fault}
 use Rattle.rfc5389.specs.Fault.{fault}
 use Rattle.rfc5389.specs.declared.Row.{Row}
-use Rattle.fingerprint.specs.Fingerprint.{fingerprintAt}
+use Rattle.fingerprints.specs.Fingerprints.{printFaults}
 use Rattle.message.specs.declared.Answer.{Answer}
 use Rattle.message.specs.declared.Answer.the-variants.{Whole, Broken, Refused}
 use Rattle.message.specs.declared.Reading.{Reading}
@@ -24,13 +23,6 @@ use Rattle.message.specs.declared.Reading.{Reading}
 -- 11 to 14, by the attribute's type and value
 unfoldable pub valueFaults : List Row → ℕ → Attr → ℕ
 valueFaults rows p a = fault rows (a .kind) (a .value)
-
--- a FINGERPRINT at p: 16 where its adjusted length has no place in 16 bits, 15 where its value differs
-unfoldable pub printFault : List ℕ → ℕ → ℕ → List ℕ → ℕ
-printFault d p k v = pick (eqb k 0x8028) (pick (ltb 65535 (p - 20 + 8)) 16 (pick (same v (four (fingerprintAt d p))) 0 15)) 0
-
-unfoldable pub printFaults : List ℕ → ℕ → Attr → ℕ
-printFaults d p a = printFault d p (a .kind) (a .value)
 
 -- the attributes from the first, and only if all pass, each FINGERPRINT in order
 abbrev pub andThen : Scan → Scan → Scan

@@ -17,7 +17,8 @@ use Rattle.attribute.specs.PassLaws.{Pass, AllPass, passed-all, all-passed, fau
 use Rattle.attribute.specs.declared.Scan.{Scan}
 use Rattle.attribute.specs.declared.Scan.the-variants.{Passed, Fault}
 use Rattle.rfc5389.specs.declared.Row.{Row}
-use Rattle.message.specs.Reading.{valueFaults, printFaults, andThen, outcome, answered, readingOf, numberOf}
+use Rattle.fingerprints.specs.Fingerprints.{printFaults}
+use Rattle.message.specs.Reading.{valueFaults, andThen, outcome, answered, readingOf, numberOf}
 use Rattle.message.specs.Whole.{Whole, attributes}
 use Rattle.message.specs.declared.Answer.the-variants as answer
 use Rattle.message.specs.declared.Reading.{Reading}

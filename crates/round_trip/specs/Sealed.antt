@@ -34,7 +34,8 @@ use Rattle.hmac.specs.HmacLaws.{length-hmac}
 use Rattle.rfc5389.specs.Rows.{rfc5389, look}
 use Rattle.rfc5389.specs.declared.Row.{Row}
 use Rattle.rfc5389.specs.Fault.{ruleOf, ruleFault, sizeFault, fault}
-use Rattle.message.specs.Reading.{valueFaults, printFault, printFaults, readingOf}
+use Rattle.fingerprints.specs.Fingerprints.{printFault, printFaults}
+use Rattle.message.specs.Reading.{valueFaults, readingOf}
 use Rattle.message.specs.declared.Answer.the-variants.{Whole}
 use Rattle.begin.specs.Begin.{headBytes}
 use Rattle.begin.specs.declared.Written.the-variants.{Total}

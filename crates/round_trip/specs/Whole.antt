@@ -20,7 +20,8 @@ use Rattle.attribute.specs.Scan.{scan, scanned}
 use Rattle.attribute.specs.declared.Scan.{Scan}
 use Rattle.attribute.specs.declared.Scan.the-variants.{Passed, Fault}
 use Rattle.rfc5389.specs.declared.Row.{Row}
-use Rattle.message.specs.Reading.{valueFaults, printFaults, andThen, outcome, answered, readingOf}
+use Rattle.fingerprints.specs.Fingerprints.{printFaults}
+use Rattle.message.specs.Reading.{valueFaults, andThen, outcome, answered, readingOf}
 use Rattle.message.specs.declared.Answer.the-variants.{Whole, Refused}
 use Rattle.message.specs.declared.Reading.{Reading}
 use Rattle.round_trip.specs.Message.{Message, bytesOf, messageOf, Shaped, Writable, Sound, write}

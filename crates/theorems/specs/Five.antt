@@ -15,7 +15,8 @@ use Rattle.attribute.specs.Scan.{scan, scanned}
 use Rattle.fingerprint.specs.Fingerprint.{fingerprintAt}
 use Rattle.rfc5389.specs.Rows.{look, rfc5389}
 use Rattle.rfc5389.specs.Fault.{ruleOf, ruleFault, sizeFault, fault}
-use Rattle.message.specs.Reading.{valueFaults, printFault, printFaults, outcome, readingOf, numberOf}
+use Rattle.fingerprints.specs.Fingerprints.{printFault, printFaults}
+use Rattle.message.specs.Reading.{valueFaults, outcome, readingOf, numberOf}
 use Rattle.message.specs.Whole.{Whole, attributes}
 use Rattle.theorems.specs.Stretch.{Ends}
 

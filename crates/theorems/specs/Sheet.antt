@@ -14,7 +14,8 @@ use Rattle.unicode.specs.Utf8.{isUtf8, goes}
 use Rattle.rfc5389.specs.Rows.{rfc5389, look}
 use Rattle.rfc5389.specs.Fault.{fault, ruleOf, sizeFault, ruleFault, addressFault, codeFault}
 use Rattle.rfc5389.specs.declared.Sizes.the-variants.{Unknown}
-use Rattle.message.specs.Reading.{numberOf, valuesOf, readingOf, outcome, valueFaults, printFaults, printFault}
+use Rattle.fingerprints.specs.Fingerprints.{printFaults, printFault}
+use Rattle.message.specs.Reading.{numberOf, valuesOf, readingOf, outcome, valueFaults}
 
 -- what is said of each row of a table
 abbrev pub Each : {A : Type 0} → (A → Type 0) → List A → Type 0

@@ -18,7 +18,8 @@ use Rattle.attribute.specs.Scan.{scan, scanned}
 use Rattle.unicode.specs.Utf8.{goes, isUtf8}
 use Rattle.rfc5389.specs.Rows.{look, rfc5389}
 use Rattle.rfc5389.specs.Fault.{ruleOf, addressFault, codeFault, ruleFault, sizeFault, fault}
-use Rattle.message.specs.Reading.{valueFaults, printFault, printFaults, outcome, readingOf}
+use Rattle.fingerprints.specs.Fingerprints.{printFault, printFaults}
+use Rattle.message.specs.Reading.{valueFaults, outcome, readingOf}
 use Rattle.message.specs.declared.Answer.the-variants.{Whole}
 use Rattle.value.specs.First.{firstFrom, firstIn, isWhole, first, valueOf}
 use Rattle.typed.specs.Typed.{ipOf, addressOf, codeOf, saidBy, plainOf, readOf, typedOf}

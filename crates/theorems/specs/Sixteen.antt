@@ -33,7 +33,8 @@ use Rattle.rfc5389.specs.declared.Rule.{Rule}
 use Rattle.rfc5389.specs.declared.Rule.the-variants.{Address, Text, Code, Types, Plain}
 use Rattle.rfc5389.specs.declared.Sizes.{Sizes}
 use Rattle.rfc5389.specs.declared.Sizes.the-variants.{Between, Unknown}
-use Rattle.message.specs.Reading.{valueFaults, printFault, printFaults, andThen, outcome, answered, readingOf, numberOf}
+use Rattle.fingerprints.specs.Fingerprints.{printFault, printFaults}
+use Rattle.message.specs.Reading.{valueFaults, andThen, outcome, answered, readingOf, numberOf}
 use Rattle.message.specs.WholeLaws.{judged-answer, refused-answer}
 
 -- the header's numbers and those of values are smaller

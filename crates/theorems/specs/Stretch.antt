@@ -22,7 +22,7 @@ use Rattle.fingerprint.specs.Fingerprint.{fingerprintAt}
 use Rattle.fingerprint.specs.StretchLaws.{Sealed, stretch-sealed}
 use Rattle.rfc5389.specs.declared.Row.{Row}
 use Rattle.attribute.specs.PassLaws.{Pass}
-use Rattle.message.specs.Reading.{printFault, printFaults}
+use Rattle.fingerprints.specs.Fingerprints.{printFault, printFaults}
 use Rattle.message.specs.Whole.{Whole, attributes}
 use Rattle.message.specs.WholeLaws.{parts}
 

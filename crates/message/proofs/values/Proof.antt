@@ -2,9 +2,11 @@ use Prim.Native.Nat.{_-_}
 use mathlib.Core.Logic.{⊎-elim}
 use native.Mathlib.Omega.{arith}
 use lib.ListN.{length}
+use Rattle.attribute.specs.Scan.{scanned}
 use Rattle.attribute.specs.ScanLaws.{Scanning, start, passed, cut, within, less}
 use Rattle.rfc5389.specs.Rows.{rfc5389}
-use Rattle.message.specs.Reading.{valueFaults, printFaults}
+use Rattle.fingerprints.specs.Fingerprints.{printFaults}
+use Rattle.message.specs.Reading.{valueFaults}
 use Rattle.message.proofs.Fronts.{onward, front-turn}
 use Rattle.message.proofs.Scans.{value-on, value-decides}
 use borrow.Author.Needs.{needs}
@@ -13,7 +15,8 @@ use Rattle.message.proofs.values.Tie as tie
 
 abbrev Inv-loop : tie.InvT-loop
 Inv-loop d at₀ count₀ front₀ at count front =
-    Scanning (valueFaults rfc5389) d at count × Scanning (printFaults d) d (front .at) (front .count)
+    Scanning (valueFaults rfc5389) d at count (scanned (valueFaults rfc5389) d)
+    × Scanning (printFaults d) d (front .at) (front .count) (scanned (printFaults d) d)
 
 abbrev μ-loop : tie.MeasureT-loop
 μ-loop d at₀ count₀ front₀ at count front = length d - at

@@ -1,0 +1,4 @@
+mod Faults
+mod Runs
+mod Scans
+mod Determined

@@ -1,0 +1,64 @@
+use Prim.Native.Nat.{_-_}
+use mathlib.Core.Logic.{⊎-elim}
+use mathlib.Core.Path.{refl}
+use native.Mathlib.Omega.{arith}
+use lib.ListN.{length}
+use Rattle.attribute.specs.ScanLaws.{Scanning, passed, cut, less}
+use Rattle.fingerprints.specs.Fingerprints.{printFaults, onFrom}
+use Rattle.fingerprints.specs.Running.{Ran}
+use Rattle.fingerprints.proofs.Runs.{unbegun}
+use Rattle.fingerprints.proofs.Scans.{start, print-room, print-on, print-decides, ran-on}
+use borrow.Author.Needs.{needs}
+use Rattle.fingerprints.proofs.prints.Statement.{statement}
+use Rattle.fingerprints.proofs.prints.Tie as tie
+
+abbrev Inv-loop : tie.InvT-loop
+Inv-loop t d from before at₀ count₀ run₀ at count run = Scanning (printFaults d) d at count (onFrom d from before) × Ran d run at
+
+abbrev μ-loop : tie.MeasureT-loop
+μ-loop t d from before at₀ count₀ run₀ at count run = length d - at
+
+loop-holds : tie.Need-loop-holds Inv-loop μ-loop
+loop-holds c = (start _ _ _ (search needs) (search needs) (search needs) refl, search (unbegun))
+
+returns : tie.Need-returns Inv-loop μ-loop
+returns c = search (passed)
+
+returns-2 : tie.Need-returns-2 Inv-loop μ-loop
+returns-2 c = search (cut)
+
+returns-3 : tie.Need-returns-3 Inv-loop μ-loop
+returns-3 c = absurd (⊎-elim (λ w. omega (arith, c .before .match2 .keys3)) (λ w. omega (arith, c .before .match2 .keys3)) (c .before .before .match .keys2))
+
+print-fault-requires : tie.Need-print-fault-requires Inv-loop μ-loop
+print-fault-requires c κs = (search needs, search needs, search needs, search (print-room))
+
+returns-4 : tie.Need-returns-4 Inv-loop μ-loop
+returns-4 c = search (print-decides)
+
+loop-less : tie.Need-loop-less Inv-loop μ-loop
+loop-less c = search (less)
+
+loop-again : tie.Need-loop-again Inv-loop μ-loop
+loop-again c = (search (print-on), search (ran-on))
+
+pub prints-spec : {M : Type 1} → statement M
+prints-spec =
+    tie.close
+    (tie.spec
+    Inv-loop
+    μ-loop
+    loop-holds
+    (λ c κs. search needs)
+    (λ c. search needs)
+    (λ c. search needs)
+    returns
+    (λ c. search needs)
+    returns-2
+    (λ c. search needs)
+    returns-3
+    print-fault-requires
+    returns-4
+    (λ c. search needs)
+    loop-less
+    loop-again)

@@ -1,0 +1,14 @@
+use Rattle.fingerprints.specs.FingerprintsLaws.{reaches}
+use Rattle.fingerprints.proofs.Scans.{none-is}
+use borrow.Author.Needs.{needs}
+use Rattle.fingerprints.proofs.prints_from.Statement.{statement}
+use Rattle.fingerprints.proofs.prints_from.Tie as tie
+
+returns : tie.Need-returns
+returns c = search (none-is)
+
+returns-2 : tie.Need-returns-2
+returns-2 c = search (reaches)
+
+pub prints-from-spec : {M : Type 1} → statement M
+prints-from-spec = tie.close (tie.spec returns (λ c κs. search needs) (λ c κs. search needs) returns-2)

@@ -1,0 +1,3 @@
+pub mod Fingerprints
+pub mod FingerprintsLaws
+pub mod Running
