@@ -11,7 +11,7 @@ use Rattle.base.specs.Choice.{pick}
 use Rattle.base.specs.Laid.{laid}
 use Rattle.numbers.specs.Numbers.{two, put}
 use Rattle.numbers.specs.PutLaws.{put-laid, put-behind}
-use Rattle.wire.specs.Cookie.{cookie}
+use Rattle.constants.specs.Cookie.{cookie}
 use Rattle.wire.specs.TypeNumber.{typeOf, classNumber, typeNumber}
 use Rattle.wire.specs.declared.method.Method.{Method}
 use Rattle.wire.specs.declared.transaction_id.TransactionId.{TransactionId}

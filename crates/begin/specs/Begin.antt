@@ -6,7 +6,7 @@ use lib.Dec.{ltb, eqb}
 use Rattle.base.specs.Choice.{pick}
 use Rattle.base.specs.Laid.{laid}
 use Rattle.numbers.specs.Numbers.{two}
-use Rattle.wire.specs.Cookie.{cookie}
+use Rattle.constants.specs.Cookie.{cookie}
 use Rattle.wire.specs.TypeNumber.{typeOf, classNumber}
 use Rattle.wire.specs.declared.method.Method.{Method}
 use Rattle.wire.specs.declared.transaction_id.TransactionId.{TransactionId}

@@ -5,7 +5,7 @@ use mathlib.Core.Bool.{Bool}
 use mathlib.Core.Path.{ap₂}
 use Rattle.base.specs.Determined.{Determines, by}
 use Rattle.numbers.specs.Numbers.{be16, be32, two, four, fitsAt, put}
-use Rattle.wire.specs.Cookie.{cookie, cookieAt}
+use Rattle.constants.specs.Cookie.{cookie, cookieAt}
 use Rattle.net.specs.Net.{xored}
 use Rattle.c_bytes.proofs.cratehoist_u16_at.Kinds as u16-at-kinds
 use Rattle.c_bytes.proofs.cratehoist_u16_at.Reads as u16-at-reads

@@ -1,7 +1,7 @@
 // What C calls: numbers at a place, the cookie, and bytes xored. Each is the library's call under a plain name.
 ghost use mathlib.Core.Path.{_≡_};
 ghost use Rattle.numbers.specs.Numbers.{be16, be32, two, four, fitsAt, put};
-ghost use Rattle.wire.specs.Cookie.{cookie, cookieAt};
+ghost use Rattle.constants.specs.Cookie.{cookie, cookieAt};
 ghost use Rattle.net.specs.Net.{xored};
 
 #[no_mangle]
@@ -43,14 +43,14 @@ pub extern "C" fn cratehoist_put_u32(buffer: &mut [u8], place: usize, number: u3
 pub extern "C" fn cratehoist_cookie_at(bytes: &[u8], place: usize) -> bool
     ensures { λ r. ⌜ r ≡ cookieAt (now (bytes .entry)) place ⌝ }
 {
-    wire::constants::cookie_at(bytes, place)
+    constants::cookie_at(bytes, place)
 }
 
 #[no_mangle]
 pub extern "C" fn cratehoist_put_cookie(buffer: &mut [u8], place: usize) -> bool
     ensures { λ r. ⌜ (r ≡ fitsAt (now (buffer .entry)) place cookie) × (now (buffer .exit) ≡ put (now (buffer .entry)) place cookie) ⌝ }
 {
-    wire::constants::put_cookie(buffer, place)
+    constants::put_cookie(buffer, place)
 }
 
 #[no_mangle]

@@ -9,7 +9,7 @@ use lib.ListN.{length}
 use lib.Dec.{ltb, eqb}
 use Rattle.base.specs.Choice.{pick}
 use Rattle.numbers.specs.Numbers.{be16}
-use Rattle.wire.specs.Cookie.{cookieAt}
+use Rattle.constants.specs.Cookie.{cookieAt}
 use Rattle.wire.specs.TypeNumber.{classOf, methodOf, classNumbered, typeFrom}
 use Rattle.header.specs.Header.{frontFault, headerFault, idOf, refusedBy, told, answer, frontOf, headerOf}
 use Rattle.wire.specs.declared.types.MessageClass.{MessageClass}

@@ -11,7 +11,7 @@ use lib.Dec.{eqb, ltb, leb}
 use Rattle.base.specs.Choice.{pick}
 use Rattle.base.specs.Lists.{drop-take}
 use Rattle.numbers.specs.Numbers.{be16}
-use Rattle.wire.specs.Cookie.{cookieAt}
+use Rattle.constants.specs.Cookie.{cookieAt}
 use Rattle.wire.specs.TypeNumber.{classOf, methodOf, classNumbered}
 use Rattle.wire.specs.declared.method.Method.{Method}
 use Rattle.wire.specs.declared.types.MessageClass.{MessageClass}

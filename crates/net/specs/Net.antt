@@ -3,7 +3,7 @@ use Prim.Native.Nat.{ℕ}
 use mathlib.Core.List.{List, [], _∷_, _++_}
 use lib.ListN.{take}
 use lib.Bits.{bitXor}
-use Rattle.wire.specs.Cookie.{cookie}
+use Rattle.constants.specs.Cookie.{cookie}
 use Rattle.net.specs.declared.Family.{Family}
 use Rattle.net.specs.declared.Family.the-variants.{Ipv4, Ipv6}
 use Rattle.net.specs.declared.SocketAddr.{SocketAddr}

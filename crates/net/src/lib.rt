@@ -2,7 +2,7 @@
 ghost use mathlib.Core.Path.{_≡_};
 ghost use mathlib.Core.List.{_++_};
 ghost use lib.ListN.{take};
-ghost use Rattle.wire.specs.Cookie.{cookie};
+ghost use Rattle.constants.specs.Cookie.{cookie};
 ghost use Rattle.net.specs.Net.{familyNumber, ipSize, xored, addrXor};
 use wire::transaction_id::TransactionId;
 

@@ -8,7 +8,7 @@ use lib.Seq.{take-at, drop-drop}
 use Rattle.base.specs.Bytes.{Bytes, take-bytes, drop-bytes, append-bytes, byte-at}
 use Rattle.base.specs.Same.{same-eq}
 use Rattle.numbers.specs.Numbers.{be16}
-use Rattle.wire.specs.Cookie.{cookie, cookieAt}
+use Rattle.constants.specs.Cookie.{cookie, cookieAt}
 use Rattle.wire.specs.TypeNumber.{typeOf, classOf, methodOf, classNumber, classNumbered}
 use Rattle.wire.specs.TypeLaws.{class-back, method-back, type-below, class-below, method-below, number-forth, class-numbered, class-number, class-small}
 use Rattle.wire.specs.declared.types.MessageClass.{MessageClass}

@@ -7,7 +7,7 @@ use lib.ListN.{length, drop, replicate, length-append, length-replicate}
 use Rattle.base.specs.Same.{same}
 use Rattle.base.specs.Laid.{laid}
 use Rattle.numbers.specs.Numbers.{be16}
-use Rattle.wire.specs.Cookie.{cookieAt}
+use Rattle.constants.specs.Cookie.{cookieAt}
 use Rattle.wire.specs.TypeNumber.{typeOf, classNumber}
 use Rattle.wire.specs.TypeLaws.{type-below, class-small}
 use Rattle.wire.specs.declared.types.MessageClass.the-variants.{Request}

@@ -11,7 +11,7 @@ use Rattle.base.specs.Choice.{pick}
 use Rattle.base.specs.Same.{same}
 use Rattle.base.specs.Laid.{laid, laid-is}
 use Rattle.numbers.specs.Numbers.{be16, two}
-use Rattle.wire.specs.Cookie.{cookieAt}
+use Rattle.constants.specs.Cookie.{cookieAt}
 use Rattle.header.specs.Header.{frontFault}
 use Rattle.attribute.specs.Attribute.{padded, Attr, rest, parse, bytesOf, allBytes}
 use Rattle.attribute.specs.RoundTrip.{Good, Goods, decode-allBytes}

@@ -8,7 +8,7 @@ use lib.ListN.{length, drop, drop-of-length-le}
 use lib.Seq.{take-all}
 use Rattle.base.specs.Same.{same}
 use Rattle.numbers.specs.Numbers.{be16, two}
-use Rattle.wire.specs.Cookie.{cookie, cookieAt}
+use Rattle.constants.specs.Cookie.{cookie, cookieAt}
 use Rattle.wire.specs.TypeNumber.{typeOf, classNumber}
 use Rattle.wire.specs.TypeLaws.{class-back, method-back, type-below, class-small, class-numbered}
 use Rattle.wire.specs.declared.types.MessageClass.{MessageClass}

@@ -7,7 +7,7 @@ use lib.ListN.{length, getD, take, drop}
 use Rattle.base.specs.Bytes.{tested}
 use Rattle.base.specs.Same.{same}
 use Rattle.numbers.specs.Numbers.{be16, withLength}
-use Rattle.wire.specs.Cookie.{cookieAt}
+use Rattle.constants.specs.Cookie.{cookieAt}
 use Rattle.header.specs.Header.{frontFault, headerFault}
 use Rattle.crc.specs.Crc.{bitStep, bitSteps, byteStep, bytesFrom, crc32Of}
 use Rattle.attribute.specs.Attribute.{parse}

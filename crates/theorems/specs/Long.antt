@@ -11,7 +11,7 @@ use lib.Dec.{eqb, ltb}
 use Rattle.base.specs.Bytes.{Bytes, byte-at}
 use Rattle.base.specs.Lists.{drop-take}
 use Rattle.numbers.specs.Numbers.{be16}
-use Rattle.wire.specs.Cookie.{cookieAt}
+use Rattle.constants.specs.Cookie.{cookieAt}
 use Rattle.header.specs.Header.{frontFault, headerFault}
 use Rattle.header.specs.HeaderLaws.{sized}
 use Rattle.rfc5389.specs.declared.Row.{Row}

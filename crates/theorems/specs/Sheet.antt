@@ -4,7 +4,7 @@ use mathlib.Core.List.{List, [], _∷_, _++_}
 use mathlib.Core.Path.{_≡_, refl}
 use lib.ListN.{replicate, take, drop}
 use Rattle.numbers.specs.Numbers.{be16, two}
-use Rattle.wire.specs.Cookie.{cookie, cookieAt}
+use Rattle.constants.specs.Cookie.{cookie, cookieAt}
 use Rattle.base.specs.Same.{same}
 use Rattle.wire.specs.TypeNumber.{typeOf, classOf, methodOf, classNumbered}
 use Rattle.header.specs.Header.{frontFault, headerFault}

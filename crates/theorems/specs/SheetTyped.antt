@@ -6,7 +6,7 @@ use lib.ListN.{replicate}
 use Rattle.base.specs.Laid.{laid}
 use Rattle.base.specs.Same.{same}
 use Rattle.numbers.specs.Numbers.{be16, two, fitsAt, put}
-use Rattle.wire.specs.Cookie.{cookie, cookieAt}
+use Rattle.constants.specs.Cookie.{cookie, cookieAt}
 use Rattle.wire.specs.TypeNumber.{classOf, methodOf, classNumbered}
 use Rattle.wire.specs.declared.transaction_id.TransactionId.{TransactionId}
 use Rattle.wire.specs.declared.types.MessageClass.the-variants.{SuccessResponse}

@@ -13,7 +13,7 @@ use Rattle.base.specs.Choice.{pick}
 use Rattle.base.specs.Bytes.{Bytes, byte-at, drop-bytes}
 use Rattle.base.specs.Same.{same}
 use Rattle.numbers.specs.Numbers.{be16, four}
-use Rattle.wire.specs.Cookie.{cookieAt}
+use Rattle.constants.specs.Cookie.{cookieAt}
 use Rattle.wire.specs.declared.method.Method.{Method}
 use Rattle.wire.specs.declared.types.MessageClass.{MessageClass}
 use Rattle.header.specs.Header.{frontFault, headerFault}

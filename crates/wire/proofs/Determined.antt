@@ -1,11 +1,6 @@
--- The contract of each public call determines its answer and each byte of a lent buffer.
+-- The contract of each public call determines its answer.
 use Prim.Native.Nat.{ℕ}
-use mathlib.Core.Bool.{Bool}
-use mathlib.Core.List.{List}
-use mathlib.Core.Path.{_≡_, ap₂}
 use Rattle.base.specs.Determined.{Determines, by}
-use Rattle.numbers.specs.Numbers.{fitsAt, put}
-use Rattle.wire.specs.Cookie.{cookie, cookieAt}
 use Rattle.wire.specs.TypeNumber.{classNumber, methodMade, typeNumber, typeFrom}
 use Rattle.wire.specs.declared.method.Method.{Method}
 use Rattle.wire.specs.declared.method.NewMethod.{NewMethod}
@@ -13,10 +8,6 @@ use Rattle.wire.specs.declared.types.MessageClass.{MessageClass}
 use Rattle.wire.specs.declared.types.MessageType.{MessageType}
 use Rattle.wire.specs.declared.types.TypeNumber.{TypeNumber}
 use Rattle.wire.specs.declared.types.FromNumber.{FromNumber}
-use Rattle.wire.proofs.constants.cookie_at.Kinds as cookie-at
-use Rattle.wire.proofs.constants.cookie_at.Reads as cookie-at-reads
-use Rattle.wire.proofs.constants.put_cookie.Kinds as put-cookie
-use Rattle.wire.proofs.constants.put_cookie.Reads as put-cookie-reads
 use Rattle.wire.proofs.method.Method.new.Kinds as new
 use Rattle.wire.proofs.method.Method.new.Reads as new-reads
 use Rattle.wire.proofs.method.Method.as_u16.Kinds as method
@@ -27,17 +18,6 @@ use Rattle.wire.proofs.types.MessageType.as_u16.Kinds as number
 use Rattle.wire.proofs.types.MessageType.as_u16.Reads as number-reads
 use Rattle.wire.proofs.types.MessageType.from_u16.Kinds as from
 use Rattle.wire.proofs.types.MessageType.from_u16.Reads as from-reads
-
-pub determined-cookie-at : Determines cookie-at.ps cookie-at.r {I = List ℕ × ℕ} {A = Bool} cookie-at-reads.Asked cookie-at-reads.Learnt
-    (λ κs a. (a .0 .now, a .1 .0)) (λ κs z e. z)
-determined-cookie-at = by cookie-at.ps cookie-at.r cookie-at-reads.Asked cookie-at-reads.Learnt _ _ (λ x. cookieAt (x .0) (x .1)) (λ κs a y d i q. q)
-
-pub determined-put-cookie : Determines put-cookie.ps put-cookie.r {I = List ℕ × ℕ} {A = Bool × List ℕ} put-cookie-reads.Asked put-cookie-reads.Learnt
-    (λ κs a. (a .0 .now, a .1 .0)) (λ κs z e. (z, e .0 .now))
-determined-put-cookie =
-    by put-cookie.ps put-cookie.r put-cookie-reads.Asked put-cookie-reads.Learnt _ _
-    (λ x. (fitsAt (x .0) (x .1) cookie, put (x .0) (x .1) cookie))
-    (λ κs a y d i q. ap₂ (λ (b : Bool) (l : List ℕ). (b, l)) (q .0) (q .1))
 
 pub determined-new : Determines new.ps new.r {I = ℕ} {A = NewMethod} new-reads.Asked new-reads.Learnt (λ κs a. a .0) (λ κs z e. z)
 determined-new = by new.ps new.r new-reads.Asked new-reads.Learnt _ _ methodMade (λ κs a y d i q. q)

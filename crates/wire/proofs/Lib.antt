@@ -1,3 +1,2 @@
-mod Cookies
 mod Classes
 mod Determined

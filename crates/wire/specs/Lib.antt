@@ -1,3 +1,2 @@
-pub mod Cookie
 pub mod TypeNumber
 pub mod TypeLaws

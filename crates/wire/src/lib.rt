@@ -1,5 +1,4 @@
-// Cookie, class and method, type number, transaction ID.
-pub mod constants;
+// Class and method, type number, transaction ID.
 pub mod method;
 pub mod transaction_id;
 pub mod types;

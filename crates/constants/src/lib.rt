@@ -1,7 +1,7 @@
 // The magic cookie, compared on reading and written by begin.
 ghost use mathlib.Core.Path.{_≡_};
 ghost use Rattle.numbers.specs.Numbers.{fitsAt, put};
-ghost use Rattle.wire.specs.Cookie.{cookie, cookieAt};
+ghost use Rattle.constants.specs.Cookie.{cookie, cookieAt};
 
 // The cookie as a number (RFC 5389 section 6).
 pub const MAGIC_COOKIE: u32 = 0x2112_A442;

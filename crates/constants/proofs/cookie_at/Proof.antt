@@ -1,10 +1,10 @@
 use Prim.Native.Nat.{_-_}
 use mathlib.Core.Path.{refl}
 use native.Mathlib.Omega.{arith}
-use Rattle.wire.proofs.Cookies.{Comparing, start, turn, differs, done, short}
+use Rattle.constants.proofs.Cookies.{Comparing, start, turn, differs, done, short}
 use borrow.Author.Needs.{needs}
-use Rattle.wire.proofs.constants.cookie_at.Statement.{statement}
-use Rattle.wire.proofs.constants.cookie_at.Tie as tie
+use Rattle.constants.proofs.cookie_at.Statement.{statement}
+use Rattle.constants.proofs.cookie_at.Tie as tie
 
 abbrev Inv-loop : tie.InvT-loop
 Inv-loop d at cookie i₀ i = Comparing d at cookie i

@@ -1,0 +1,2 @@
+mod Cookies
+mod Determined
