@@ -1,21 +1,33 @@
 // The calls of a script: each takes its fields, makes one call of the library and says what came of it.
 use crate::answers::part;
-use crate::answers::plus;
 use crate::feed::is_comment;
 use crate::fields::bytes_of;
 use crate::fields::ends;
 use crate::fields::field;
 use crate::fields::low;
 use crate::fields::position;
-use crate::fields::short_of;
 use crate::fields::types_of;
-use crate::kinds::AddressOf;
-use crate::kinds::ClassOf;
-use crate::kinds::TextOf;
 use crate::kinds::address_of;
 use crate::kinds::class_of;
 use crate::kinds::text_of;
-use crate::wants::Wanted;
+use crate::wants::ADDRESS_TYPE;
+use crate::wants::BYTES;
+use crate::wants::CALL;
+use crate::wants::CLASS;
+use crate::wants::CODE;
+use crate::wants::END;
+use crate::wants::FAMILY;
+use crate::wants::ID;
+use crate::wants::IP;
+use crate::wants::METHOD;
+use crate::wants::NOTHING;
+use crate::wants::PADDING;
+use crate::wants::PORT;
+use crate::wants::SIZE;
+use crate::wants::TEXT_TYPE;
+use crate::wants::TYPE;
+use crate::wants::TYPES;
+use crate::wants::VALUE;
 use append_fields::AddressKind;
 use begin::Written;
 use net::Family;
@@ -30,73 +42,128 @@ pub const LONGEST: usize = 262144;
 
 pub const LARGEST: usize = 131072;
 
+// As many fields as a call has at most, and the end behind them.
+const FIELDS: usize = 5;
+
 // What a line comes to; Message and Buffer are to be shown.
 pub enum Said {
     Nothing,
     Size(usize),
     Total(usize),
     Refused(u8),
-    Expected(Wanted),
+    Expected(usize),
     Message,
     Buffer,
 }
 
-fn told(w: Written) -> Said {
-    match w {
-        Written::Total { size } => Said::Total(size),
-        Written::Refused { number } => Said::Refused(number),
+// What each field of a call is to be, by the call's number.
+fn fields_of(call: usize) -> [usize; FIELDS] {
+    match call {
+        2 => [SIZE, END, END, END, END],
+        4 => [CLASS, METHOD, ID, END, END],
+        5 => [TYPE, VALUE, PADDING, END, END],
+        6 => [ADDRESS_TYPE, FAMILY, PORT, IP, END],
+        7 => [TEXT_TYPE, BYTES, END, END, END],
+        8 => [CODE, BYTES, END, END, END],
+        9 => [TYPES, END, END, END, END],
+        10 => [BYTES, END, END, END, END],
+        12 => [CALL, END, END, END, END],
+        _ => [END, END, END, END, END],
+    }
+}
+
+fn size_of(h: Hex) -> Number {
+    match h {
+        Hex::Bytes(n) => Number::Is(n as u64),
+        _ => Number::Not,
+    }
+}
+
+// The bytes of a field go to a place; answers how many they are.
+fn bytes_at(t: &[u8], bytes: &mut [u8], at: u64) -> Number {
+    if (bytes.len() as u64) < at {
+        return Number::Not;
+    }
+    size_of(bytes_of(t, &mut bytes[at as usize..]))
+}
+
+// A field's number, or the size of its bytes, which go to the front or, as padding, behind those of the field before.
+fn number_of(t: &[u8], wanted: usize, before: u64, bytes: &mut [u8; LONGEST]) -> Number {
+    match wanted {
+        END => Number::Is(t.len() as u64),
+        PADDING => bytes_at(t, bytes, before),
+        ID => bytes_at(t, bytes, 0),
+        VALUE => bytes_at(t, bytes, 0),
+        IP => bytes_at(t, bytes, 0),
+        BYTES => bytes_at(t, bytes, 0),
+        TYPES => size_of(types_of(t, bytes)),
+        _ => text::number_of(t),
+    }
+}
+
+// Is a number, or a size, as wanted?
+fn fits(n: u64, wanted: usize) -> bool {
+    match wanted {
+        CALL => false,
+        END => n == 0,
+        SIZE => n <= 131072,
+        CLASS => class_of(n).as_u16() as u64 == n,
+        ID => n == 12,
+        TYPE => n <= 65535,
+        ADDRESS_TYPE => address_of(n).as_u16() as u64 == n,
+        TEXT_TYPE => text_of(n).as_u16() as u64 == n,
+        PORT => n <= 65535,
+        _ => true,
+    }
+}
+
+// What was wanted and isn't there, and the number or the size that each field says.
+struct Taken {
+    wanted: usize,
+    said: [u64; FIELDS],
+}
+
+// The fields of a line; their bytes go to `bytes`.
+fn take(s: &[u8], wanted: [usize; FIELDS], bytes: &mut [u8; LONGEST]) -> Taken {
+    let mut said = [0u64; FIELDS];
+    let mut before = 0;
+    let mut i = 0;
+    while i < FIELDS {
+        let w = wanted[i];
+        let n = match number_of(field(s, i + 1), w, before, bytes) {
+            Number::Is(n) => n,
+            Number::Not => return Taken { wanted: w, said },
+        };
+        if !fits(n, w) {
+            return Taken { wanted: w, said };
+        }
+        said[i] = n;
+        before = n;
+        i += 1;
+    }
+    Taken {
+        wanted: NOTHING,
+        said,
     }
 }
 
 // begin CLASS METHOD ID
-fn begun(s: &[u8], message: &mut [u8]) -> Said {
-    let ClassOf::Is(class) = class_of(field(s, 1)) else {
-        return Said::Expected(Wanted::Class);
-    };
-    let Number::Is(m) = text::number_of(field(s, 2)) else {
-        return Said::Expected(Wanted::Method);
-    };
+fn begun(v: [u64; FIELDS], bytes: &[u8], message: &mut [u8]) -> Written {
     let mut id = [0u8; 12];
-    let Hex::Bytes(size) = bytes_of(field(s, 3), &mut id) else {
-        return Said::Expected(Wanted::Id);
-    };
-    if size != 12 {
-        return Said::Expected(Wanted::Id);
-    }
-    if !ends(s, 4) {
-        return Said::Expected(Wanted::End);
-    }
-    told(begin::begin(
+    numbers::put_bytes(&mut id, 0, part(bytes, 0, 12));
+    begin::begin(
         message,
-        class,
-        Method { code: low(m) },
+        class_of(v[0]),
+        Method { code: low(v[1]) },
         TransactionId { bytes: id },
-    ))
-}
-
-// The value is the first n bytes, the padding the m behind it.
-fn appended(kind: u16, bytes: &[u8], n: usize, m: usize, message: &mut [u8]) -> Said {
-    told(append::append_raw(message, kind, part(bytes, 0, n), part(bytes, n, m)))
+    )
 }
 
 // raw TYPE VALUE PADDING
-fn raw(s: &[u8], bytes: &mut [u8], message: &mut [u8]) -> Said {
-    let Number::Is(kind) = short_of(field(s, 1)) else {
-        return Said::Expected(Wanted::Type);
-    };
-    let Hex::Bytes(n) = bytes_of(field(s, 2), bytes) else {
-        return Said::Expected(Wanted::Value);
-    };
-    if bytes.len() < n {
-        return Said::Expected(Wanted::Value);
-    }
-    let Hex::Bytes(m) = bytes_of(field(s, 3), &mut bytes[n..]) else {
-        return Said::Expected(Wanted::Padding);
-    };
-    if !ends(s, 4) {
-        return Said::Expected(Wanted::End);
-    }
-    appended(low(kind), bytes, n, m, message)
+fn raw(v: [u64; FIELDS], bytes: &[u8], message: &mut [u8]) -> Written {
+    let n = v[1] as usize;
+    let padding = part(bytes, n, v[2] as usize);
+    append::append_raw(message, low(v[0]), part(bytes, 0, n), padding)
 }
 
 fn is_pair(family: Family, n: u64, ip: &[u8]) -> bool {
@@ -126,167 +193,76 @@ fn addressed(kind: AddressKind, family: u64, port: u16, ip: &[u8], message: &mut
     append_typed::append_value(message, 23, kind.as_u16(), b"")
 }
 
-// The bytes of a call's last field: how many they are, or what was wanted.
-enum Tail {
-    Size(usize),
-    Not(Wanted),
-}
-
-fn last_of(t: Hex, s: &[u8], number: usize, wanted: Wanted) -> Tail {
-    let Hex::Bytes(n) = t else {
-        return Tail::Not(wanted);
-    };
-    if !ends(s, plus(number, 1)) {
-        return Tail::Not(Wanted::End);
-    }
-    Tail::Size(n)
-}
-
-fn last(s: &[u8], number: usize, bytes: &mut [u8; LONGEST]) -> Tail {
-    last_of(bytes_of(field(s, number), bytes), s, number, Wanted::Bytes)
-}
-
 // address TYPE FAMILY PORT IPHEX
-fn address(s: &[u8], bytes: &mut [u8; LONGEST], message: &mut [u8]) -> Said {
-    let AddressOf::Is(kind) = address_of(field(s, 1)) else {
-        return Said::Expected(Wanted::AddressType);
-    };
-    let Number::Is(family) = text::number_of(field(s, 2)) else {
-        return Said::Expected(Wanted::Family);
-    };
-    let Number::Is(port) = short_of(field(s, 3)) else {
-        return Said::Expected(Wanted::Port);
-    };
-    match last_of(bytes_of(field(s, 4), bytes), s, 4, Wanted::Ip) {
-        Tail::Size(n) => told(addressed(kind, family, low(port), part(bytes, 0, n), message)),
-        Tail::Not(w) => Said::Expected(w),
+fn address(v: [u64; FIELDS], bytes: &[u8], message: &mut [u8]) -> Written {
+    let ip = part(bytes, 0, v[3] as usize);
+    addressed(address_of(v[0]), v[1], low(v[2]), ip, message)
+}
+
+// types T,T,.. or integrity HEX or fingerprint
+fn last(call: usize, v: [u64; FIELDS], bytes: &[u8], message: &mut [u8]) -> Written {
+    let b = part(bytes, 0, v[0] as usize);
+    match call {
+        9 => append_typed::append_unknown_attributes(message, b),
+        10 => seal::append_message_integrity(message, b),
+        _ => seal::append_fingerprint(message),
     }
 }
 
-// text TYPE HEX
-fn text_call(s: &[u8], bytes: &mut [u8; LONGEST], message: &mut [u8]) -> Said {
-    let TextOf::Is(kind) = text_of(field(s, 1)) else {
-        return Said::Expected(Wanted::TextType);
-    };
-    match last(s, 2, bytes) {
-        Tail::Size(n) => told(append_typed::append_text(message, kind, part(bytes, 0, n))),
-        Tail::Not(w) => Said::Expected(w),
+// text TYPE HEX or error CODE HEX, or one of the last
+fn added(call: usize, v: [u64; FIELDS], bytes: &[u8], message: &mut [u8]) -> Written {
+    let b = part(bytes, 0, v[1] as usize);
+    match call {
+        7 => append_typed::append_text(message, text_of(v[0]), b),
+        8 => append_fields::append_error_code(message, low(v[0]), b),
+        _ => last(call, v, bytes, message),
     }
 }
 
-// error CODE HEX
-fn error(s: &[u8], bytes: &mut [u8; LONGEST], message: &mut [u8]) -> Said {
-    let Number::Is(code) = text::number_of(field(s, 1)) else {
-        return Said::Expected(Wanted::Code);
-    };
-    match last(s, 2, bytes) {
-        Tail::Size(n) => told(append_fields::append_error_code(
-            message,
-            low(code),
-            part(bytes, 0, n),
-        )),
-        Tail::Not(w) => Said::Expected(w),
+// The calls on a message, by their numbers.
+fn made(call: usize, v: [u64; FIELDS], bytes: &[u8], message: &mut [u8]) -> Written {
+    match call {
+        4 => begun(v, bytes, message),
+        5 => raw(v, bytes, message),
+        6 => address(v, bytes, message),
+        _ => added(call, v, bytes, message),
     }
 }
 
-// types T,T,..
-fn types(s: &[u8], bytes: &mut [u8; LONGEST], message: &mut [u8]) -> Said {
-    match last_of(types_of(field(s, 1), bytes), s, 1, Wanted::Types) {
-        Tail::Size(n) => told(append_typed::append_unknown_attributes(message, part(bytes, 0, n))),
-        Tail::Not(w) => Said::Expected(w),
+// What comes of a call on a message; the buffer is the first bytes of the store, so many.
+fn written(call: usize, v: [u64; FIELDS], size: usize, bytes: &[u8], store: &mut [u8]) -> Said {
+    if store.len() < size {
+        return Said::Nothing;
     }
-}
-
-// integrity HEX
-fn integrity_call(s: &[u8], bytes: &mut [u8; LONGEST], message: &mut [u8]) -> Said {
-    match last(s, 1, bytes) {
-        Tail::Size(n) => told(seal::append_message_integrity(message, part(bytes, 0, n))),
-        Tail::Not(w) => Said::Expected(w),
-    }
-}
-
-fn fingerprint(s: &[u8], message: &mut [u8]) -> Said {
-    if !ends(s, 1) {
-        return Said::Expected(Wanted::End);
-    }
-    told(seal::append_fingerprint(message))
-}
-
-fn fill(s: &mut [u8], b: u8) {
-    let mut i = 0;
-    while i < s.len() {
-        s[i] = b;
-        i += 1;
+    let w = made(call, v, bytes, &mut store[0..size]);
+    match w {
+        Written::Total { size: n } => Said::Total(n),
+        Written::Refused { number } => Said::Refused(number),
     }
 }
 
 // buffer N
-fn sized(s: &[u8], store: &mut [u8]) -> Said {
-    let Number::Is(n) = text::number_of(field(s, 1)) else {
-        return Said::Expected(Wanted::Size);
-    };
-    if (store.len() as u64) < n {
-        return Said::Expected(Wanted::Size);
+fn sized(n: u64, store: &mut [u8]) -> Said {
+    let mut i = 0;
+    while i < store.len() {
+        store[i] = 0xAA;
+        i += 1;
     }
-    if !ends(s, 2) {
-        return Said::Expected(Wanted::End);
-    }
-    fill(store, 0xAA);
     Said::Size(n as usize)
 }
 
 // load HEX
 fn loaded(s: &[u8], store: &mut [u8]) -> Said {
     if !ends(s, 2) {
-        return Said::Expected(Wanted::End);
+        return Said::Expected(END);
     }
     let Hex::Bytes(n) = bytes_of(field(s, 1), store) else {
-        return Said::Expected(Wanted::Bytes);
+        return Said::Expected(BYTES);
     };
     if store.len() < n {
-        return Said::Expected(Wanted::Size);
+        return Said::Expected(SIZE);
     }
     Said::Size(n)
-}
-
-// A call that is a word alone.
-fn alone(s: &[u8], what: Said) -> Said {
-    if !ends(s, 1) {
-        return Said::Expected(Wanted::End);
-    }
-    what
-}
-
-// The calls that add an attribute or seal the message, by their numbers.
-fn added(call: usize, s: &[u8], bytes: &mut [u8; LONGEST], message: &mut [u8]) -> Said {
-    match call {
-        7 => text_call(s, bytes, message),
-        8 => error(s, bytes, message),
-        9 => types(s, bytes, message),
-        10 => integrity_call(s, bytes, message),
-        11 => fingerprint(s, message),
-        _ => Said::Expected(Wanted::Call),
-    }
-}
-
-// The calls on a message; the buffer is the first bytes of the store, so many.
-fn written(
-    call: usize,
-    s: &[u8],
-    size: usize,
-    bytes: &mut [u8; LONGEST],
-    store: &mut [u8],
-) -> Said {
-    if store.len() < size {
-        return Said::Nothing;
-    }
-    let message = &mut store[0..size];
-    match call {
-        4 => begun(s, message),
-        5 => raw(s, bytes, message),
-        6 => address(s, bytes, message),
-        _ => added(call, s, bytes, message),
-    }
 }
 
 // A call's number is its place in this list.
@@ -304,11 +280,18 @@ pub fn one(s: &[u8], size: usize, bytes: &mut [u8; LONGEST], store: &mut [u8; LA
         return Said::Nothing;
     }
     let call = call_of(word);
+    if call == 3 {
+        return loaded(s, store);
+    }
+    let t = take(s, fields_of(call), bytes);
+    if t.wanted != NOTHING {
+        return Said::Expected(t.wanted);
+    }
+    let v = t.said;
     match call {
-        0 => alone(s, Said::Message),
-        1 => alone(s, Said::Buffer),
-        2 => sized(s, store),
-        3 => loaded(s, store),
-        _ => written(call, s, size, bytes, store),
+        0 => Said::Message,
+        1 => Said::Buffer,
+        2 => sized(v[0], store),
+        _ => written(call, v, size, bytes, store),
     }
 }

@@ -1,5 +1,6 @@
 // Standard input line by line.
 use crate::answers::part;
+use crate::answers::plus;
 use crate::output::fail;
 use libc::STDIN_FILENO;
 
@@ -110,17 +111,17 @@ fn last(f: Feed, have: usize) -> Feed {
     }
 }
 
-// Reads once behind what is there: how much; more than there is room for where reading fails, which has been told.
+// Reads once behind what is there, and answers where that ends then; behind all room where reading fails, which has been told.
 pub fn read_behind(input: &mut [u8], have: usize) -> usize {
     if input.len() < have {
-        return 0;
+        return have;
     }
     let got = libc::read(STDIN_FILENO, &mut input[have..]);
     if got < 0 {
         fail(b"stun: standard input");
         return usize::MAX;
     }
-    io::count(got, input)
+    plus(have, io::count(got, input))
 }
 
 // Reads behind what is there, where there is room.
@@ -128,14 +129,14 @@ fn more(f: Feed, have: usize, input: &mut [u8]) -> Feed {
     if input.len() <= have {
         return overlong(f, input);
     }
-    let n = read_behind(input, have);
-    if n == 0 {
+    let end = read_behind(input, have);
+    if end == have {
         return last(f, have);
     }
-    if input.len() - have < n {
+    if input.len() < end {
         return over();
     }
-    waiting(f.long, 0, have + n)
+    waiting(f.long, 0, end)
 }
 
 // Takes the line that starts where the last one ended, or reads for its end.

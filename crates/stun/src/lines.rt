@@ -21,28 +21,18 @@ use text::Hex;
 // As much of the input as is kept: more than the digits of a datagram's first bytes.
 const INPUT: usize = 131328;
 
-// A line that is longer than the input buffer: how many characters of it are past, the column of the first that is
-// no digit (0: none so far), and whether that one is a carriage return.
-struct Long {
-    on: bool,
-    comment: bool,
-    seen: u64,
-    bad: u64,
-    cr: bool,
-}
-
-// How many lines are past, how many of them were answered, and the place where the next one starts.
-struct Scanned {
+// Where reading stands: how much of the input is kept, where its next line starts, and how many lines are past and were
+// answered. Of a line that is longer than the input buffer, how many characters are past (0: there is no such line), the
+// column of the first that is no digit (0: none so far), and whether that one is a carriage return.
+struct State {
+    go: bool,
+    have: usize,
     from: usize,
     line: u64,
     done: u64,
-}
-
-struct State {
-    have: usize,
-    go: bool,
-    scanned: Scanned,
-    long: Long,
+    seen: u64,
+    bad: u64,
+    cr: bool,
 }
 
 pub fn plus(a: u64, b: u64) -> u64 {
@@ -101,105 +91,18 @@ fn one(s: &[u8], line: u64, job: Job, key: &[u8], raw: &mut [u8; MOST], buf: &mu
     }
 }
 
-// A line is past; the next one starts at a place.
-fn counted(c: Scanned, from: usize, comment: bool) -> Scanned {
-    let line = plus(c.line, 1);
-    if comment {
-        return Scanned {
-            from,
-            line,
-            done: c.done,
-        };
-    }
-    Scanned {
-        from,
-        line,
-        done: plus(c.done, 1),
-    }
-}
-
-// The lines that end in s, from a place on.
-fn lines(
-    s: &[u8],
-    c: Scanned,
-    job: Job,
-    key: &[u8],
-    raw: &mut [u8; MOST],
-    buf: &mut [u8; ROOM],
-) -> Scanned {
-    let mut c = c;
-    let mut left = s.len();
-    while left > 0 {
-        let from = c.from;
-        let e = find(s, from, 10);
-        if s.len() <= e {
-            return c;
-        }
-        let t = between(s, from, e);
-        let comment = is_comment(t);
-        c = counted(c, e + 1, comment);
-        if !comment {
-            one(t, c.line, job, key, raw, buf);
-        }
-        left -= 1;
-    }
-    c
-}
-
-fn no_long() -> Long {
-    Long {
-        on: false,
-        comment: false,
-        seen: 0,
-        bad: 0,
-        cr: false,
-    }
-}
-
 // More of a long line.
-fn more(l: Long, s: &[u8]) -> Long {
-    let seen = plus(l.seen, s.len() as u64);
-    if l.bad == 0 {
+fn more(c: State, s: &[u8]) -> State {
+    let mut c = c;
+    if c.bad == 0 {
         let b = text::first_bad(s);
         if b < s.len() {
-            return Long {
-                on: true,
-                comment: l.comment,
-                seen,
-                bad: plus(plus(l.seen, b as u64), 1),
-                cr: s[b] == 13,
-            };
+            c.bad = plus(plus(c.seen, b as u64), 1);
+            c.cr = s[b] == 13;
         }
     }
-    Long {
-        on: true,
-        comment: l.comment,
-        seen,
-        bad: l.bad,
-        cr: l.cr,
-    }
-}
-
-// The digits of the first 65,556 bytes.
-fn front(s: &[u8]) -> &[u8] {
-    let n = MOST * 2;
-    if s.len() < n {
-        return s;
-    }
-    &s[0..n]
-}
-
-// The input buffer is full and has no line end: its line's first bytes go to raw.
-fn begin_long(s: &[u8], raw: &mut [u8]) -> Long {
-    text::unhex(front(s), raw);
-    let l = Long {
-        on: true,
-        comment: is_comment(s),
-        seen: 0,
-        bad: 0,
-        cr: false,
-    };
-    more(l, s)
+    c.seen = plus(c.seen, s.len() as u64);
+    c
 }
 
 fn end_digits(digits: u64, line: u64, job: Job, key: &[u8], raw: &[u8], buf: &mut [u8; ROOM]) {
@@ -211,14 +114,14 @@ fn end_digits(digits: u64, line: u64, job: Job, key: &[u8], raw: &[u8], buf: &mu
 }
 
 // Where a carriage return is all that is bad, and the last character, it is of the line's end.
-fn end_long(l: Long, line: u64, job: Job, key: &[u8], raw: &[u8], buf: &mut [u8; ROOM]) {
-    let bad = l.bad;
+fn end_long(c: State, line: u64, job: Job, key: &[u8], raw: &[u8], buf: &mut [u8; ROOM]) {
+    let bad = c.bad;
     if bad == 0 {
-        end_digits(l.seen, line, job, key, raw, buf);
+        end_digits(c.seen, line, job, key, raw, buf);
         return;
     }
-    if l.cr {
-        if bad == l.seen {
+    if c.cr {
+        if bad == c.seen {
             end_digits(bad - 1, line, job, key, raw, buf);
             return;
         }
@@ -226,95 +129,92 @@ fn end_long(l: Long, line: u64, job: Job, key: &[u8], raw: &[u8], buf: &mut [u8;
     not_hex(line, bad, buf);
 }
 
-// A long line has ended, and the next one starts at a place: the state behind it.
-fn closed(s: State, from: usize, job: Job, key: &[u8], raw: &[u8], buf: &mut [u8; ROOM]) -> State {
-    let long = s.long;
-    let before = s.scanned;
-    let c = counted(before, from, long.comment);
-    if !long.comment {
-        end_long(long, c.line, job, key, raw, buf);
-    }
+// A line has ended, and the next one starts at a place.
+fn past(c: State, from: usize, done: u64) -> State {
     State {
+        go: true,
         have: 0,
-        go: s.go,
-        scanned: c,
-        long: no_long(),
+        from,
+        line: plus(c.line, 1),
+        done,
+        seen: 0,
+        bad: 0,
+        cr: false,
     }
 }
 
-fn stopped(s: State) -> State {
-    let mut s = s;
-    s.go = false;
-    s
-}
-
-// The state behind the lines of a buffer, of which so many bytes are kept.
-fn past(c: Scanned, have: usize, go: bool) -> State {
-    State {
-        have,
-        go,
-        scanned: Scanned {
-            from: 0,
-            line: c.line,
-            done: c.done,
-        },
-        long: no_long(),
-    }
-}
-
-// What was read, up to its end: whole lines are answered, and the rest moves to the front.
-fn ordinary(
-    s: State,
-    input: &mut [u8; INPUT],
-    end: usize,
+// The end of a line, or all of it where it isn't long.
+fn ended(
+    t: &[u8],
+    c: State,
+    from: usize,
     job: Job,
     key: &[u8],
     raw: &mut [u8; MOST],
     buf: &mut [u8; ROOM],
 ) -> State {
-    let before = s.scanned;
-    let c = lines(part(input, 0, end), before, job, key, raw, buf);
-    past(c, move_down(input, c.from, end), output::is_fine(buf))
-}
-
-// Nothing of a long line is kept but what it comes to.
-fn long_line(s: State, long: Long) -> State {
-    let scanned = s.scanned;
-    State {
-        have: 0,
-        go: s.go,
-        scanned,
-        long,
+    let line = plus(c.line, 1);
+    if c.seen > 0 {
+        end_long(more(c, t), line, job, key, raw, buf);
+        return past(c, from, plus(c.done, 1));
     }
+    if is_comment(t) {
+        return past(c, from, c.done);
+    }
+    one(t, line, job, key, raw, buf);
+    past(c, from, plus(c.done, 1))
 }
 
-fn longer(s: State, part: &[u8]) -> State {
-    let long = s.long;
-    long_line(s, more(long, part))
-}
-
-// The next part of a long line was read.
-fn going_on(
-    s: State,
-    input: &mut [u8; INPUT],
-    end: usize,
+// The lines that end in s.
+fn lines(
+    s: &[u8],
+    c: State,
     job: Job,
     key: &[u8],
     raw: &mut [u8; MOST],
     buf: &mut [u8; ROOM],
 ) -> State {
-    let e = find(part(input, 0, end), 0, 10);
-    if end <= e {
-        return longer(s, part(input, 0, end));
+    let mut c = c;
+    let mut left = s.len();
+    while left > 0 {
+        let from = c.from;
+        let e = find(s, from, 10);
+        if s.len() <= e {
+            return c;
+        }
+        c = ended(between(s, from, e), c, e + 1, job, key, raw, buf);
+        left -= 1;
     }
-    let after = longer(s, part(input, 0, e));
-    let next = closed(after, e + 1, job, key, raw, buf);
-    ordinary(next, input, end, job, key, raw, buf)
+    c
 }
 
-// The buffer has bytes up to an end.
+// The digits of the first 65,556 bytes.
+fn front(s: &[u8]) -> &[u8] {
+    let n = MOST * 2;
+    if s.len() < n {
+        return s;
+    }
+    &s[0..n]
+}
+
+// The input buffer is full and has no line end. Of a remark its sign is enough; a long line's first bytes go to raw, and
+// nothing else of it is kept but what it comes to.
+fn full(c: State, s: &[u8], raw: &mut [u8; MOST]) -> State {
+    let mut c = c;
+    if c.seen == 0 {
+        if is_comment(s) {
+            c.have = 1;
+            return c;
+        }
+        text::unhex(front(s), raw);
+    }
+    c.have = 0;
+    more(c, s)
+}
+
+// The buffer has bytes up to an end: whole lines are answered, and the rest moves to the front.
 fn filled(
-    s: State,
+    c: State,
     input: &mut [u8; INPUT],
     end: usize,
     job: Job,
@@ -322,95 +222,80 @@ fn filled(
     raw: &mut [u8; MOST],
     buf: &mut [u8; ROOM],
 ) -> State {
-    let long = s.long;
-    if long.on {
-        return going_on(s, input, end, job, key, raw, buf);
+    let mut c = lines(part(input, 0, end), c, job, key, raw, buf);
+    let have = move_down(input, c.from, end);
+    c.have = have;
+    c.from = 0;
+    if have < INPUT {
+        return c;
     }
-    ordinary(s, input, end, job, key, raw, buf)
-}
-
-// Is there the beginning of a line?
-fn is_begun(s: State) -> bool {
-    let long = s.long;
-    s.have > 0 || long.on
+    full(c, input, raw)
 }
 
 // The input has ended: the last line gets the line end that it has not.
 fn last(
-    s: State,
+    c: State,
     input: &mut [u8; INPUT],
     job: Job,
     key: &[u8],
     raw: &mut [u8; MOST],
     buf: &mut [u8; ROOM],
 ) -> State {
-    let have = s.have;
-    if is_begun(s) {
-        if have < INPUT {
+    let have = c.have;
+    if have < INPUT {
+        if have > 0 || c.seen > 0 {
             input[have] = 10;
-            return stopped(filled(s, input, have + 1, job, key, raw, buf));
+            return stopped(filled(c, input, have + 1, job, key, raw, buf));
         }
     }
-    stopped(s)
+    stopped(c)
 }
 
-// The buffer is full and its line goes on.
-fn full(s: State, input: &[u8], raw: &mut [u8]) -> State {
-    long_line(s, begin_long(input, raw))
+fn stopped(c: State) -> State {
+    let mut c = c;
+    c.go = false;
+    c
 }
 
 // Reads once.
 fn turn(
-    s: State,
+    c: State,
     input: &mut [u8; INPUT],
     job: Job,
     key: &[u8],
     raw: &mut [u8; MOST],
     buf: &mut [u8; ROOM],
 ) -> State {
-    let have = s.have;
-    if INPUT <= have {
-        return full(s, input, raw);
+    let end = read_behind(input, c.have);
+    if end == c.have {
+        return last(c, input, job, key, raw, buf);
     }
-    let n = read_behind(input, have);
-    if n == 0 {
-        return last(s, input, job, key, raw, buf);
+    if INPUT < end {
+        return stopped(c);
     }
-    if INPUT - have < n {
-        return stopped(s);
-    }
-    filled(s, input, have + n, job, key, raw, buf)
+    filled(c, input, end, job, key, raw, buf)
 }
 
-fn done(s: State) -> u64 {
-    let c = s.scanned;
-    c.done
-}
-
-fn at_start() -> State {
-    State {
-        have: 0,
-        go: true,
-        scanned: Scanned {
-            from: 0,
-            line: 0,
-            done: 0,
-        },
-        long: no_long(),
-    }
-}
-
-// All of standard input.
+// All of standard input, as long as the answers can be written.
 fn all(job: Job, key: &[u8], input: &mut [u8; INPUT], raw: &mut [u8; MOST], buf: &mut [u8; ROOM]) {
     let mut w = progress::begin();
-    let mut s = at_start();
+    let mut c = State {
+        go: true,
+        have: 0,
+        from: 0,
+        line: 0,
+        done: 0,
+        seen: 0,
+        bad: 0,
+        cr: false,
+    };
     let mut left = u64::MAX;
-    while left > 0 && s.go {
-        s = turn(s, input, job, key, raw, buf);
-        w = progress::tick(w, done(s));
+    while left > 0 && c.go && output::is_fine(buf) {
+        c = turn(c, input, job, key, raw, buf);
+        w = progress::tick(w, c.done);
         left -= 1;
     }
-    progress::end(w, done(s));
+    progress::end(w, c.done);
     output::finish(buf);
 }
 

@@ -14,7 +14,7 @@ use crate::output::faulty;
 use crate::output::hex;
 use crate::output::put;
 use crate::output::sign;
-use crate::wants::Wanted;
+use crate::wants::LINE;
 use crate::wants::expected;
 use header::Head;
 
@@ -87,7 +87,7 @@ fn line(
     store: &mut [u8; LARGEST],
 ) -> Said {
     if f.long {
-        return Said::Expected(Wanted::Line);
+        return Said::Expected(LINE);
     }
     one(between(input, f.start, f.end), size, bytes, store)
 }

@@ -3,10 +3,10 @@ use Rattle.stun.proofs.lines.all.Statement.{statement}
 use Rattle.stun.proofs.lines.all.Tie as tie
 
 abbrev Inv-loop : tie.InvT-loop
-Inv-loop job key input₀ raw₀ buf₀ w₀ s₀ left₀ input raw buf w s left = Unit {0}
+Inv-loop job key input₀ raw₀ buf₀ w₀ c₀ left₀ input raw buf w c left = Unit {0}
 
 abbrev μ-loop : tie.MeasureT-loop
-μ-loop job key input₀ raw₀ buf₀ w₀ s₀ left₀ input raw buf w s left = left
+μ-loop job key input₀ raw₀ buf₀ w₀ c₀ left₀ input raw buf w c left = left
 
 pub all-spec : {M : Type 1} → statement M
 all-spec =
@@ -15,7 +15,6 @@ all-spec =
     Inv-loop
     μ-loop
     (λ c κs. search needs)
-    (λ c κs. search needs)
     (λ c. search needs)
     (λ c κs. search needs)
     (λ c κs. search needs)
@@ -23,7 +22,6 @@ all-spec =
     (λ c. search needs)
     (λ c. search needs)
     (λ c. search needs)
-    (λ c κs. search needs)
     (λ c κs. search needs)
     (λ c κs. search needs)
     (λ c. search needs))

@@ -2,17 +2,17 @@ use Prim.Native.Nat.{_-_}
 use mathlib.Core.Path.{_≡_}
 use lib.ListN.{length}
 use borrow.Author.Needs.{needs}
-use Rattle.stun.proofs.calls.fill.Statement.{statement}
-use Rattle.stun.proofs.calls.fill.Tie as tie
+use Rattle.stun.proofs.calls.sized.Statement.{statement}
+use Rattle.stun.proofs.calls.sized.Tie as tie
 
 abbrev Inv-loop : tie.InvT-loop
-Inv-loop s₀ b i₀ s i = (length s ≡ length s₀)
+Inv-loop n store₀ i₀ store i = (length store ≡ length store₀)
 
 abbrev μ-loop : tie.MeasureT-loop
-μ-loop s₀ b i₀ s i = length s₀ - i
+μ-loop n store₀ i₀ store i = length store₀ - i
 
-pub fill-spec : {M : Type 1} → statement M
-fill-spec =
+pub sized-spec : {M : Type 1} → statement M
+sized-spec =
     tie.close
     (tie.spec
     Inv-loop
