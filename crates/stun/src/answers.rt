@@ -26,16 +26,12 @@ pub enum Job {
     Keyed,
 }
 
-fn id_hex(buf: &mut [u8; ROOM], id: TransactionId) {
-    let bytes = id.bytes;
-    hex(buf, &bytes);
-}
-
 // CLASS METHOD ID
 fn head(buf: &mut [u8; ROOM], class: MessageClass, method: Method, id: TransactionId) {
+    let bytes = id.bytes;
     number(buf, class.as_u16() as u64, b' ');
     number(buf, method.as_u16() as u64, b' ');
-    id_hex(buf, id);
+    hex(buf, &bytes);
     sign(buf, b' ');
 }
 
@@ -65,9 +61,10 @@ fn broken(
     decimal(buf, place as u64);
 }
 
-fn refused(buf: &mut [u8; ROOM], n: u8) {
-    put(buf, b"refused ");
-    decimal(buf, n as u64);
+// A word and a number behind it.
+fn told(buf: &mut [u8; ROOM], word: &[u8], n: u64) {
+    put(buf, word);
+    decimal(buf, n);
 }
 
 fn reading(d: &[u8], buf: &mut [u8; ROOM]) {
@@ -86,7 +83,7 @@ fn reading(d: &[u8], buf: &mut [u8; ROOM]) {
             reason,
             place,
         } => broken(buf, class, method, id, reason, place),
-        Answer::Refused { number } => refused(buf, number),
+        Answer::Refused { number } => told(buf, b"refused ", number as u64),
     }
 }
 
@@ -123,14 +120,8 @@ fn visited(buf: &mut [u8; ROOM], at: usize, kind: u16, value: usize, size: usize
 
 fn stopped(w: Walk, buf: &mut [u8; ROOM]) {
     match w {
-        Walk::End { at } => {
-            put(buf, b"end:");
-            decimal(buf, at as u64);
-        }
-        Walk::Cut { at } => {
-            put(buf, b"cut:");
-            decimal(buf, at as u64);
-        }
+        Walk::End { at } => told(buf, b"end:", at as u64),
+        Walk::Cut { at } => told(buf, b"cut:", at as u64),
         _ => (),
     }
 }
@@ -168,15 +159,11 @@ pub fn part(d: &[u8], at: usize, size: usize) -> &[u8] {
     &d[0..0]
 }
 
-fn ip_hex(buf: &mut [u8; ROOM], family: Family, ip: [u8; 16]) {
-    hex(buf, part(&ip, 0, family.ip_size()));
-}
-
 fn address(buf: &mut [u8; ROOM], family: Family, port: u16, ip: [u8; 16]) {
     put(buf, b"addr=");
     number(buf, family.as_u8() as u64, b'=');
     number(buf, port as u64, b'=');
-    ip_hex(buf, family, ip);
+    hex(buf, part(&ip, 0, family.ip_size()));
 }
 
 fn error(buf: &mut [u8; ROOM], code: u16, phrase: &[u8]) {
@@ -214,19 +201,14 @@ fn known(kind: u16) -> bool {
     }
 }
 
-// A blank parts the values.
-fn parted(buf: &mut [u8; ROOM], first: bool) {
-    if !first {
-        sign(buf, b' ');
-    }
-}
-
-// Nothing for a type that isn't known.
+// Nothing for a type that isn't known; a blank parts the values.
 fn shown(buf: &mut [u8; ROOM], first: bool, at: usize, kind: u16, value: &[u8], id: TransactionId) {
     if !known(kind) {
         return;
     }
-    parted(buf, first);
+    if !first {
+        sign(buf, b' ');
+    }
     named(buf, at, kind);
     said(buf, kind, value, id);
 }
@@ -266,8 +248,11 @@ fn values(d: &[u8], buf: &mut [u8; ROOM]) {
 
 fn checked(d: &[u8], key: &[u8], buf: &mut [u8; ROOM]) {
     reading(d, buf);
-    put(buf, b" integrity ");
-    decimal(buf, integrity::check_integrity(d, key) as u64);
+    told(
+        buf,
+        b" integrity ",
+        integrity::check_integrity(d, key) as u64,
+    );
 }
 
 fn asked(d: &[u8], job: Job, key: &[u8], buf: &mut [u8; ROOM]) {

@@ -2,7 +2,6 @@
 use crate::answers::part;
 use crate::feed::is_comment;
 use crate::fields::bytes_of;
-use crate::fields::ends;
 use crate::fields::field;
 use crate::fields::low;
 use crate::fields::position;
@@ -253,7 +252,7 @@ fn sized(n: u64, store: &mut [u8]) -> Said {
 
 // load HEX
 fn loaded(s: &[u8], store: &mut [u8]) -> Said {
-    if !ends(s, 2) {
+    if field(s, 2).len() > 0 {
         return Said::Expected(END);
     }
     let Hex::Bytes(n) = bytes_of(field(s, 1), store) else {

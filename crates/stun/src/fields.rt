@@ -54,23 +54,6 @@ pub fn position(word: &[u8], list: &[u8]) -> usize {
     number
 }
 
-// Has the line no more fields than so many?
-pub fn ends(s: &[u8], count: usize) -> bool {
-    field(s, count).len() == 0
-}
-
-// A number of at most 16 bits.
-pub fn short_of(t: &[u8]) -> Number {
-    let n = text::number_of(t);
-    let Number::Is(k) = n else {
-        return n;
-    };
-    if 65535 < k {
-        return Number::Not;
-    }
-    n
-}
-
 // A number in 16 bits; a greater one is as far out of range as the greatest.
 pub fn low(n: u64) -> u16 {
     if 65535 < n {
@@ -92,10 +75,13 @@ pub fn bytes_of(t: &[u8], out: &mut [u8]) -> Hex {
 
 // Puts a type's two bytes at a place; false where the text is no type or there is no room.
 fn put_type(t: &[u8], out: &mut [u8], at: usize) -> bool {
-    let Number::Is(n) = short_of(t) else {
+    let Number::Is(n) = text::number_of(t) else {
         return false;
     };
-    numbers::put_u16(out, at, low(n))
+    if 65535 < n {
+        return false;
+    }
+    numbers::put_u16(out, at, n as u16)
 }
 
 // The same of types parted by commas, two bytes each, `-` for none.

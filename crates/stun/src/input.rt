@@ -1,5 +1,7 @@
 // One datagram from a file or from standard input, as raw bytes or as hex text.
 use crate::answers::part;
+use crate::is_whole;
+use crate::lines::plus;
 use crate::output::complain;
 use crate::output::complain_column;
 use crate::output::complain_number;
@@ -35,18 +37,6 @@ fn nothing() -> Found {
     }
 }
 
-fn next(n: u64) -> u64 {
-    if n == u64::MAX {
-        return n;
-    }
-    n + 1
-}
-
-fn is_digit(b: u8) -> bool {
-    let one = [b];
-    text::first_bad(&one) == 1
-}
-
 pub fn is_blank(b: u8) -> bool {
     match b {
         9 => true,
@@ -56,23 +46,12 @@ pub fn is_blank(b: u8) -> bool {
     }
 }
 
-fn new_line(g: Reached) -> Reached {
-    Reached {
-        digits: g.digits,
-        last: g.last,
-        line: next(g.line),
-        column: 0,
-        comment: false,
-        bad: g.bad,
-    }
-}
-
 fn along(g: Reached, comment: bool, bad: bool) -> Reached {
     Reached {
         digits: g.digits,
         last: g.last,
         line: g.line,
-        column: next(g.column),
+        column: plus(g.column, 1),
         comment,
         bad,
     }
@@ -81,7 +60,14 @@ fn along(g: Reached, comment: bool, bad: bool) -> Reached {
 // A character that is no digit.
 fn passed(b: u8, g: Reached) -> Reached {
     if b == 10 {
-        return new_line(g);
+        return Reached {
+            digits: g.digits,
+            last: g.last,
+            line: plus(g.line, 1),
+            column: 0,
+            comment: false,
+            bad: false,
+        };
     }
     if g.comment {
         return along(g, true, false);
@@ -97,29 +83,24 @@ fn passed(b: u8, g: Reached) -> Reached {
     along(g, false, true)
 }
 
-// The byte that two digits spell, kept as long as there is room.
-fn spell(high: u8, low: u8, at: u64, raw: &mut [u8]) {
-    let digits = [high, low];
-    let mut byte = [0u8; 1];
-    text::unhex(&digits, &mut byte);
-    numbers::put_bytes(raw, at as usize, &byte);
-}
-
-// Every second digit makes a byte with the one before it.
+// Every second digit makes a byte with the one before it, kept as long as there is room.
 fn keep(b: u8, g: Reached, raw: &mut [u8]) {
     if g.digits % 2 == 0 {
         return;
     }
-    spell(g.last, b, g.digits / 2, raw);
+    let digits = [g.last, b];
+    let mut byte = [0u8; 1];
+    text::unhex(&digits, &mut byte);
+    numbers::put_bytes(raw, (g.digits / 2) as usize, &byte);
 }
 
 fn digit(b: u8, g: Reached, raw: &mut [u8]) -> Reached {
     keep(b, g, raw);
     Reached {
-        digits: next(g.digits),
+        digits: plus(g.digits, 1),
         last: b,
         line: g.line,
-        column: next(g.column),
+        column: plus(g.column, 1),
         comment: false,
         bad: false,
     }
@@ -129,7 +110,8 @@ fn character(b: u8, g: Reached, raw: &mut [u8]) -> Reached {
     if g.comment {
         return passed(b, g);
     }
-    if is_digit(b) {
+    let one = [b];
+    if text::first_bad(&one) == 1 {
         return digit(b, g, raw);
     }
     passed(b, g)
@@ -316,7 +298,7 @@ fn taken(fd: i32, name: &[u8], form: Form, raw: &mut [u8]) -> Found {
 }
 
 // The datagram of the file that a path names, `-` for standard input.
-pub fn datagram(path: &[u8], form: Form, raw: &mut [u8]) -> Found {
+fn datagram(path: &[u8], form: Form, raw: &mut [u8]) -> Found {
     if check::same(path, b"-") {
         return taken(0, b"standard input", form, raw);
     }
@@ -328,4 +310,14 @@ pub fn datagram(path: &[u8], form: Form, raw: &mut [u8]) -> Found {
     let f = taken(fd, path, form, raw);
     libc::close(fd);
     f
+}
+
+// The datagram of the file that an argument names.
+pub fn datagram_at(i: usize, form: Form, raw: &mut [u8]) -> Found {
+    let mut path = io::buffer();
+    let n = os::arg(i, &mut path);
+    if !is_whole(b"stun: the file's name") {
+        return nothing();
+    }
+    datagram(&path[..n], form, raw)
 }

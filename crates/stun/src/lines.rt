@@ -72,20 +72,19 @@ fn without_return(s: &[u8]) -> usize {
     s.len()
 }
 
-// The bytes that a line spells, as many as raw has.
-fn spelt(raw: &[u8], size: usize, job: Job, key: &[u8], buf: &mut [u8; ROOM]) {
-    if size <= raw.len() {
-        answer(&raw[0..size], job, key, buf);
-        return;
+// So many of the first bytes, or all where there are not so many.
+fn first(d: &[u8], n: usize) -> &[u8] {
+    if n < d.len() {
+        return &d[0..n];
     }
-    answer(raw, job, key, buf);
+    d
 }
 
 // One line, without its end.
 fn one(s: &[u8], line: u64, job: Job, key: &[u8], raw: &mut [u8; MOST], buf: &mut [u8; ROOM]) {
     let h = text::unhex(part(s, 0, without_return(s)), raw);
     match h {
-        Hex::Bytes(size) => spelt(raw, size, job, key, buf),
+        Hex::Bytes(size) => answer(first(raw, size), job, key, buf),
         Hex::Bad(p) => not_hex(line, plus(p as u64, 1), buf),
         Hex::Odd => odd(line, buf),
     }
@@ -188,15 +187,6 @@ fn lines(
     c
 }
 
-// The digits of the first 65,556 bytes.
-fn front(s: &[u8]) -> &[u8] {
-    let n = MOST * 2;
-    if s.len() < n {
-        return s;
-    }
-    &s[0..n]
-}
-
 // The input buffer is full and has no line end. Of a remark its sign is enough; a long line's first bytes go to raw, and
 // nothing else of it is kept but what it comes to.
 fn full(c: State, s: &[u8], raw: &mut [u8; MOST]) -> State {
@@ -206,7 +196,7 @@ fn full(c: State, s: &[u8], raw: &mut [u8; MOST]) -> State {
             c.have = 1;
             return c;
         }
-        text::unhex(front(s), raw);
+        text::unhex(first(s, MOST * 2), raw);
     }
     c.have = 0;
     more(c, s)

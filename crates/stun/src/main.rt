@@ -20,7 +20,6 @@ use answers::MOST;
 use answers::part;
 use fields::position;
 use input::Form;
-use input::Found;
 use libc::STDOUT_FILENO;
 use output::complain;
 use output::complain_column;
@@ -95,7 +94,7 @@ fn key_of(s: &[u8], key: &mut [u8]) -> usize {
 }
 
 // Is the argument whole that was read last?
-fn is_whole(what: &[u8]) -> bool {
+pub fn is_whole(what: &[u8]) -> bool {
     if os::errno() == 0 {
         return true;
     }
@@ -110,15 +109,6 @@ fn key_at(i: usize, key: &mut [u8]) -> usize {
         return usize::MAX;
     }
     key_of(&arg[..n], key)
-}
-
-// A file's name.
-pub fn path_at(i: usize, path: &mut [u8]) -> usize {
-    let n = os::arg(i, path);
-    if !is_whole(b"stun: the file's name") {
-        return usize::MAX;
-    }
-    n
 }
 
 // No more words than so many are taken.
@@ -166,25 +156,12 @@ fn check_datagram(d: &[u8], key: &[u8]) {
     }
 }
 
-fn check_found(raw: &[u8], f: Found, key: &[u8]) {
-    if f.good {
-        check_datagram(part(raw, 0, f.size), key);
-    }
-}
-
-fn check_path(path: &[u8], key: &[u8]) {
-    let mut raw = [0u8; MOST];
-    let f = input::datagram(path, Form::Told, &mut raw);
-    check_found(&raw, f, key);
-}
-
 fn check_with(key: &[u8]) {
-    let mut path = io::buffer();
-    let n = path_at(3, &mut path);
-    if path.len() < n {
-        return;
+    let mut raw = [0u8; MOST];
+    let f = input::datagram_at(3, Form::Told, &mut raw);
+    if f.good {
+        check_datagram(part(&raw, 0, f.size), key);
     }
-    check_path(&path[0..n], key);
 }
 
 fn check_command() {

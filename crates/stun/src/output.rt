@@ -14,78 +14,54 @@ const FAULT: usize = 5;
 
 pub const ROOM: usize = 65542;
 
+// Notes that some input was at fault.
+pub fn faulty(buf: &mut [u8; ROOM]) {
+    buf[FAULT] = 1;
+}
+
+// Did every write go through?
+pub fn is_fine(buf: &[u8; ROOM]) -> bool {
+    buf[FAILED] == 0
+}
+
 fn waiting(buf: &[u8]) -> usize {
     numbers::u32_at(buf, 0) as usize
 }
 
-fn wait(buf: &mut [u8], n: usize) {
-    if 65536 < n {
-        return;
+// Writes what waits. After a write that failed nothing more is written.
+pub fn flush(buf: &mut [u8; ROOM]) {
+    let n = waiting(buf);
+    if buf[FAILED] == 0 {
+        if !io::write_all(STDOUT_FILENO, part(buf, FRONT, n)) {
+            buf[FAILED] = 1;
+        }
     }
-    numbers::put_u32(buf, 0, n as u32);
-}
-
-fn is_set(buf: &[u8], at: usize) -> bool {
-    if buf.len() <= at {
-        return false;
-    }
-    buf[at] != 0
-}
-
-fn set(buf: &mut [u8], at: usize) {
-    if at < buf.len() {
-        buf[at] = 1;
-    }
-}
-
-// Notes that some input was at fault.
-pub fn faulty(buf: &mut [u8; ROOM]) {
-    set(buf, FAULT);
-}
-
-// Did every write go through?
-pub fn is_fine(buf: &[u8]) -> bool {
-    !is_set(buf, FAILED)
-}
-
-// After a write that failed nothing more is written.
-fn goes(buf: &[u8], s: &[u8]) -> bool {
-    if is_fine(buf) {
-        return io::write_all(STDOUT_FILENO, s);
-    }
-    false
-}
-
-fn noted(buf: &mut [u8], went: bool) {
-    if !went {
-        set(buf, FAILED);
-    }
-}
-
-pub fn flush(buf: &mut [u8]) {
-    let went = goes(buf, part(buf, FRONT, waiting(buf)));
-    noted(buf, went);
-    wait(buf, 0);
+    numbers::put_u32(buf, 0, 0);
 }
 
 // Lets more wait; false where there is no room for it.
-fn add(buf: &mut [u8], s: &[u8]) -> bool {
+fn add(buf: &mut [u8; ROOM], s: &[u8]) -> bool {
     let n = waiting(buf);
-    if numbers::put_bytes(buf, plus(FRONT, n), s) {
-        wait(buf, plus(n, s.len()));
-        return true;
+    let all = plus(n, s.len());
+    if 65536 < all {
+        return false;
     }
-    false
+    numbers::put_bytes(buf, plus(FRONT, n), s);
+    numbers::put_u32(buf, 0, all as u32);
+    true
 }
 
 // What is longer than the whole buffer is written at once.
-fn put_after(buf: &mut [u8], s: &[u8]) {
+fn put_after(buf: &mut [u8; ROOM], s: &[u8]) {
     flush(buf);
     if add(buf, s) {
         return;
     }
-    let went = goes(buf, s);
-    noted(buf, went);
+    if buf[FAILED] == 0 {
+        if !io::write_all(STDOUT_FILENO, s) {
+            buf[FAILED] = 1;
+        }
+    }
 }
 
 pub fn put(buf: &mut [u8; ROOM], s: &[u8]) {
@@ -190,13 +166,13 @@ pub fn fail(what: &[u8]) {
 }
 
 // Writes what is left. A write that failed is told, and the status is 2; else 1 where some input was at fault.
-pub fn finish(buf: &mut [u8]) {
+pub fn finish(buf: &mut [u8; ROOM]) {
     flush(buf);
-    if !is_fine(buf) {
+    if buf[FAILED] != 0 {
         fail(b"stun: standard output");
         return;
     }
-    if is_set(buf, FAULT) {
+    if buf[FAULT] != 0 {
         status(1);
     }
 }

@@ -88,29 +88,23 @@ pub fn bad(colour: bool, words: &[u8]) {
     painted(colour, b"\x1b[1;31m", words);
 }
 
-fn escaped(one: &[u8]) {
-    say(b"\\x");
-    hex(one);
-}
-
 // A quote and a backslash stand behind a backslash.
-fn ordinary(b: u8, one: &[u8]) {
-    if b == 34 {
-        sign(b'\\');
+fn ordinary(b: u8) {
+    match b {
+        34 => sign(b'\\'),
+        92 => sign(b'\\'),
+        _ => (),
     }
-    if b == 92 {
-        sign(b'\\');
-    }
-    say(one);
+    sign(b);
 }
 
 fn character(before: u8, b: u8, after: u8) {
-    let one = [b];
     if display::is_escaped(before, b, after) {
-        escaped(&one);
+        say(b"\\x");
+        word(b as u64, 2);
         return;
     }
-    ordinary(b, &one);
+    ordinary(b);
 }
 
 // The byte at a place; nought where there is none.
@@ -138,16 +132,14 @@ fn quoted(s: &[u8]) {
     sign(b'"');
 }
 
-fn two_of_four(high: u8, low: u8) {
-    decimal(high as u64);
-    sign(b'.');
-    decimal(low as u64);
-}
-
 fn ipv4(ip: &[u8]) {
-    two_of_four(byte_at(ip, 0), byte_at(ip, 1));
+    decimal(byte_at(ip, 0) as u64);
     sign(b'.');
-    two_of_four(byte_at(ip, 2), byte_at(ip, 3));
+    decimal(byte_at(ip, 1) as u64);
+    sign(b'.');
+    decimal(byte_at(ip, 2) as u64);
+    sign(b'.');
+    decimal(byte_at(ip, 3) as u64);
 }
 
 fn group(n: u16, first: bool) {
@@ -214,17 +206,14 @@ fn address(family: Family, port: u16, bytes: [u8; 16]) {
     decimal(port as u64);
 }
 
-fn meaning(n: Name) {
-    if n.size != 0 {
-        sign(b' ');
-        named(n);
-    }
-}
-
 // The code, what it means, and the phrase.
 fn code(n: u16, phrase: &[u8]) {
+    let name = names::code(n);
     decimal(n as u64);
-    meaning(names::code(n));
+    if name.size != 0 {
+        sign(b' ');
+        named(name);
+    }
     say(b", ");
     quoted(phrase);
 }

@@ -6,10 +6,8 @@ use crate::answers::plus;
 use crate::dump::rows;
 use crate::input;
 use crate::input::Form;
-use crate::input::Found;
 use crate::output::complain;
 use crate::output::status;
-use crate::path_at;
 use crate::person::bad;
 use crate::person::column;
 use crate::person::good;
@@ -69,16 +67,14 @@ fn one(d: &[u8], at: usize, kind: u16, value: &[u8], pad: &[u8], id: Transaction
     padding(pad);
 }
 
-fn cut(at: usize, colour: bool) {
-    sign(b'\n');
-    column(at, 5);
-    bad(colour, b"  cut off");
-}
-
 // Where the walk stops before the end.
 fn stopped(w: Walk, colour: bool) {
     match w {
-        Walk::Cut { at } => cut(at, colour),
+        Walk::Cut { at } => {
+            sign(b'\n');
+            column(at, 5);
+            bad(colour, b"  cut off");
+        }
         _ => (),
     }
 }
@@ -108,15 +104,7 @@ fn attributes(d: &[u8], id: TransactionId, colour: bool) {
     }
 }
 
-// The attributes under their columns' names; nothing where there are none.
-fn table(d: &[u8], id: TransactionId, colour: bool) {
-    if 20 < d.len() {
-        say(b"\n\nplace  attribute           size  value");
-        attributes(d, id, colour);
-    }
-}
-
-// What is shown of a datagram that has a header.
+// What is shown of a datagram that has a header: the attributes stand under their columns' names, where there are any.
 fn opened(
     d: &[u8],
     class: MessageClass,
@@ -126,7 +114,10 @@ fn opened(
     colour: bool,
 ) {
     head(class, method, id, total);
-    table(d, id, colour);
+    if 20 < d.len() {
+        say(b"\n\nplace  attribute           size  value");
+        attributes(d, id, colour);
+    }
 }
 
 // The bytes that the number is about, where there are bytes.
@@ -139,6 +130,7 @@ fn shown(d: &[u8], n: u8, place: usize, colour: bool) {
 
 // The number, where to read what to do about it, and the bytes.
 fn told(d: &[u8], n: u8, place: usize, colour: bool) {
+    say(b": ");
     number(n);
     say(b" (stun numbers ");
     decimal(n as u64);
@@ -148,38 +140,34 @@ fn told(d: &[u8], n: u8, place: usize, colour: bool) {
     status(1);
 }
 
-fn counted(count: usize) {
-    decimal(count as u64);
-    if count == 1 {
-        say(b" attribute");
-        return;
-    }
-    say(b" attributes");
-}
-
 fn whole(count: usize, colour: bool) {
     say(b"\n\n");
     good(colour, b"whole");
     say(b": ");
-    counted(count);
+    decimal(count as u64);
+    say(b" attribute");
+    if count != 1 {
+        sign(b's');
+    }
     end();
 }
 
-fn broken(d: &[u8], n: u8, place: usize, colour: bool) {
+fn at_fault(word: &[u8], colour: bool) {
     say(b"\n\n");
-    bad(colour, b"broken");
+    bad(colour, word);
+}
+
+fn broken(d: &[u8], n: u8, place: usize, colour: bool) {
+    at_fault(b"broken", colour);
     say(b" at place ");
     decimal(place as u64);
-    say(b": ");
     told(d, n, place, colour);
 }
 
 fn refused(d: &[u8], total: u64, n: u8, colour: bool) {
     say(b"no STUN message");
     amount(total);
-    say(b"\n\n");
-    bad(colour, b"refused");
-    say(b": ");
+    at_fault(b"refused", colour);
     told(d, n, 0, colour);
 }
 
@@ -209,27 +197,14 @@ fn datagram(d: &[u8], total: u64, colour: bool) {
     }
 }
 
-fn found(raw: &[u8], f: Found) {
-    if f.good {
-        let colour = libc::isatty(STDOUT_FILENO) == 1;
-        datagram(part(raw, 0, f.size), f.total, colour);
-    }
-}
-
-fn file(path: &[u8], form: Form) {
-    let mut raw = [0u8; MOST];
-    let f = input::datagram(path, form, &mut raw);
-    found(&raw, f);
-}
-
 // The file that an argument names.
 fn file_at(i: usize, form: Form) {
-    let mut path = io::buffer();
-    let n = path_at(i, &mut path);
-    if path.len() < n {
-        return;
+    let mut raw = [0u8; MOST];
+    let f = input::datagram_at(i, form, &mut raw);
+    if f.good {
+        let colour = libc::isatty(STDOUT_FILENO) == 1;
+        datagram(part(&raw, 0, f.size), f.total, colour);
     }
-    file(&path[0..n], form);
 }
 
 // A form before or behind the file.

@@ -9,9 +9,9 @@ use crate::feed::Feed;
 use crate::fields::between;
 use crate::output;
 use crate::output::ROOM;
-use crate::output::decimal;
 use crate::output::faulty;
 use crate::output::hex;
+use crate::output::number;
 use crate::output::put;
 use crate::output::sign;
 use crate::wants::LINE;
@@ -34,15 +34,13 @@ fn message_of(buffer: &[u8]) -> &[u8] {
 
 fn ok(n: usize, buf: &mut [u8; ROOM]) {
     put(buf, b"ok ");
-    decimal(buf, n as u64);
-    sign(buf, b'\n');
+    number(buf, n as u64, b'\n');
 }
 
 fn no(n: u8, buf: &mut [u8; ROOM]) {
     faulty(buf);
     put(buf, b"no ");
-    decimal(buf, n as u64);
-    sign(buf, b'\n');
+    number(buf, n as u64, b'\n');
 }
 
 fn shown(d: &[u8], buf: &mut [u8; ROOM]) {
@@ -53,23 +51,22 @@ fn shown(d: &[u8], buf: &mut [u8; ROOM]) {
     sign(buf, b'\n');
 }
 
-fn tell(what: Said, buffer: &[u8], buf: &mut [u8; ROOM]) {
+fn answered(what: Said, buf: &mut [u8; ROOM]) {
     match what {
-        Said::Nothing => (),
         Said::Size(n) => ok(n, buf),
         Said::Total(n) => ok(n, buf),
         Said::Refused(n) => no(n, buf),
         Said::Expected(w) => expected(w, buf),
-        Said::Message => shown(message_of(buffer), buf),
-        Said::Buffer => shown(buffer, buf),
+        _ => (),
     }
 }
 
-// Where the script stands, whether it goes on, and how large the buffer is.
-struct State {
-    feed: Feed,
-    go: bool,
-    size: usize,
+fn tell(what: Said, buffer: &[u8], buf: &mut [u8; ROOM]) {
+    match what {
+        Said::Message => shown(message_of(buffer), buf),
+        Said::Buffer => shown(buffer, buf),
+        _ => answered(what, buf),
+    }
 }
 
 fn size_after(what: Said, size: usize) -> usize {
@@ -79,7 +76,7 @@ fn size_after(what: Said, size: usize) -> usize {
     n
 }
 
-fn line(
+fn said(
     f: Feed,
     input: &[u8],
     size: usize,
@@ -92,57 +89,41 @@ fn line(
     one(between(input, f.start, f.end), size, bytes, store)
 }
 
-// Answers are written when no further line is at hand, so that a person can go on.
-fn written_out(f: Feed, buf: &mut [u8; ROOM]) {
-    if feed::idle(f) {
-        output::flush(buf);
-    }
-}
-
-// The next line.
-fn turn(
-    s: State,
-    input: &mut [u8; LONGEST],
+// A line, and how large the buffer is behind it. Answers are written when no further line is at hand, so that a person can
+// go on.
+fn line(
+    f: Feed,
+    input: &[u8],
+    size: usize,
     bytes: &mut [u8; LONGEST],
     store: &mut [u8; LARGEST],
     buf: &mut [u8; ROOM],
-) -> State {
-    let before = s.feed;
-    let size = s.size;
-    let f = feed::next(before, input);
-    if !f.on {
-        return State {
-            feed: f,
-            go: false,
-            size,
-        };
-    }
-    let what = line(f, input, size, bytes, store);
+) -> usize {
+    let what = said(f, input, size, bytes, store);
     let now = size_after(what, size);
     tell(what, part(store, 0, now), buf);
-    written_out(f, buf);
-    State {
-        feed: f,
-        go: output::is_fine(buf),
-        size: now,
+    if feed::idle(f) {
+        output::flush(buf);
     }
+    now
 }
 
-// All of standard input.
+// All of standard input, as long as the answers can be written.
 fn all(
     input: &mut [u8; LONGEST],
     bytes: &mut [u8; LONGEST],
     store: &mut [u8; LARGEST],
     buf: &mut [u8; ROOM],
 ) {
-    let mut s = State {
-        feed: feed::at_start(),
-        go: true,
-        size: 65552,
-    };
+    let mut f = feed::at_start();
+    let mut size = 65552;
     let mut left = u64::MAX;
-    while left > 0 && s.go {
-        s = turn(s, input, bytes, store, buf);
+    while left > 0 && output::is_fine(buf) {
+        f = feed::next(f, input);
+        if !f.on {
+            break;
+        }
+        size = line(f, input, size, bytes, store, buf);
         left -= 1;
     }
     output::finish(buf);

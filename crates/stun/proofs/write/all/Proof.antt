@@ -3,10 +3,10 @@ use Rattle.stun.proofs.write.all.Statement.{statement}
 use Rattle.stun.proofs.write.all.Tie as tie
 
 abbrev Inv-loop : tie.InvT-loop
-Inv-loop input₀ bytes₀ store₀ buf₀ s₀ left₀ input bytes store buf s left = Unit {0}
+Inv-loop input₀ bytes₀ store₀ buf₀ f₀ size₀ left₀ input bytes store buf f size left = Unit {0}
 
 abbrev μ-loop : tie.MeasureT-loop
-μ-loop input₀ bytes₀ store₀ buf₀ s₀ left₀ input bytes store buf s left = left
+μ-loop input₀ bytes₀ store₀ buf₀ f₀ size₀ left₀ input bytes store buf f size left = left
 
 pub all-spec : {M : Type 1} → statement M
 all-spec =
@@ -16,6 +16,8 @@ all-spec =
     μ-loop
     (λ c κs. search needs)
     (λ c. search needs)
+    (λ c κs. search needs)
+    (λ c κs. search needs)
     (λ c κs. search needs)
     (λ c. search needs)
     (λ c. search needs)
