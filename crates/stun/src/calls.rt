@@ -91,10 +91,7 @@ fn number_of(t: &[u8], wanted: usize, before: u64, bytes: &mut [u8; LONGEST]) ->
     match wanted {
         END => Number::Is(t.len() as u64),
         PADDING => bytes_at(t, bytes, before),
-        ID => bytes_at(t, bytes, 0),
-        VALUE => bytes_at(t, bytes, 0),
-        IP => bytes_at(t, bytes, 0),
-        BYTES => bytes_at(t, bytes, 0),
+        ID | VALUE | IP | BYTES => bytes_at(t, bytes, 0),
         TYPES => size_of(types_of(t, bytes)),
         _ => text::number_of(t),
     }
@@ -108,10 +105,9 @@ fn fits(n: u64, wanted: usize) -> bool {
         SIZE => n <= 131072,
         CLASS => class_of(n).as_u16() as u64 == n,
         ID => n == 12,
-        TYPE => n <= 65535,
+        TYPE | PORT => n <= 65535,
         ADDRESS_TYPE => address_of(n).as_u16() as u64 == n,
         TEXT_TYPE => text_of(n).as_u16() as u64 == n,
-        PORT => n <= 65535,
         _ => true,
     }
 }
@@ -147,22 +143,20 @@ fn take(s: &[u8], wanted: [usize; FIELDS], bytes: &mut [u8; LONGEST]) -> Taken {
 }
 
 // begin CLASS METHOD ID
-fn begun(v: [u64; FIELDS], bytes: &[u8], message: &mut [u8]) -> Written {
+fn begun(class: u64, method: u64, bytes: &[u8], message: &mut [u8]) -> Written {
     let mut id = [0u8; 12];
     numbers::put_bytes(&mut id, 0, part(bytes, 0, 12));
     begin::begin(
         message,
-        class_of(v[0]),
-        Method { code: low(v[1]) },
+        class_of(class),
+        Method { code: low(method) },
         TransactionId { bytes: id },
     )
 }
 
-// raw TYPE VALUE PADDING
-fn raw(v: [u64; FIELDS], bytes: &[u8], message: &mut [u8]) -> Written {
-    let n = v[1] as usize;
-    let padding = part(bytes, n, v[2] as usize);
-    append::append_raw(message, low(v[0]), part(bytes, 0, n), padding)
+// raw TYPE VALUE PADDING, with the sizes of the last two
+fn raw(kind: u64, n: usize, m: usize, bytes: &[u8], message: &mut [u8]) -> Written {
+    append::append_raw(message, low(kind), part(bytes, 0, n), part(bytes, n, m))
 }
 
 fn is_pair(family: Family, n: u64, ip: &[u8]) -> bool {
@@ -179,6 +173,7 @@ fn socket_addr(family: Family, port: u16, ip: &[u8]) -> SocketAddr {
     }
 }
 
+// address TYPE FAMILY PORT IPHEX
 // A family and a size that are no pair break the rule of an address, whatever its bytes: 23, unless the front is no message.
 fn addressed(kind: AddressKind, family: u64, port: u16, ip: &[u8], message: &mut [u8]) -> Written {
     if is_pair(Family::Ipv4, family, ip) {
@@ -192,39 +187,34 @@ fn addressed(kind: AddressKind, family: u64, port: u16, ip: &[u8], message: &mut
     append_typed::append_value(message, 23, kind.as_u16(), b"")
 }
 
-// address TYPE FAMILY PORT IPHEX
-fn address(v: [u64; FIELDS], bytes: &[u8], message: &mut [u8]) -> Written {
-    let ip = part(bytes, 0, v[3] as usize);
-    addressed(address_of(v[0]), v[1], low(v[2]), ip, message)
-}
-
-// types T,T,.. or integrity HEX or fingerprint
-fn last(call: usize, v: [u64; FIELDS], bytes: &[u8], message: &mut [u8]) -> Written {
-    let b = part(bytes, 0, v[0] as usize);
+// text TYPE HEX, error CODE HEX, types T,T,.., integrity HEX and fingerprint, with the bytes of the last field
+fn added(call: usize, first: u64, last: &[u8], message: &mut [u8]) -> Written {
     match call {
-        9 => append_typed::append_unknown_attributes(message, b),
-        10 => seal::append_message_integrity(message, b),
+        7 => append_typed::append_text(message, text_of(first), last),
+        8 => append_fields::append_error_code(message, low(first), last),
+        9 => append_typed::append_unknown_attributes(message, last),
+        10 => seal::append_message_integrity(message, last),
         _ => seal::append_fingerprint(message),
     }
 }
 
-// text TYPE HEX or error CODE HEX, or one of the last
-fn added(call: usize, v: [u64; FIELDS], bytes: &[u8], message: &mut [u8]) -> Written {
-    let b = part(bytes, 0, v[1] as usize);
-    match call {
-        7 => append_typed::append_text(message, text_of(v[0]), b),
-        8 => append_fields::append_error_code(message, low(v[0]), b),
-        _ => last(call, v, bytes, message),
-    }
-}
-
-// The calls on a message, by their numbers.
+// The calls on a message, by what their fields say.
 fn made(call: usize, v: [u64; FIELDS], bytes: &[u8], message: &mut [u8]) -> Written {
+    let a = v[0];
+    let b = v[1];
+    let c = v[2];
     match call {
-        4 => begun(v, bytes, message),
-        5 => raw(v, bytes, message),
-        6 => address(v, bytes, message),
-        _ => added(call, v, bytes, message),
+        4 => begun(a, b, bytes, message),
+        5 => raw(a, b as usize, c as usize, bytes, message),
+        6 => addressed(
+            address_of(a),
+            b,
+            low(c),
+            part(bytes, 0, v[3] as usize),
+            message,
+        ),
+        7 | 8 => added(call, a, part(bytes, 0, b as usize), message),
+        _ => added(call, a, part(bytes, 0, a as usize), message),
     }
 }
 
@@ -272,6 +262,20 @@ fn call_of(word: &[u8]) -> usize {
     )
 }
 
+// What comes of a call whose fields were taken.
+fn called(call: usize, t: Taken, size: usize, bytes: &[u8], store: &mut [u8; LARGEST]) -> Said {
+    if t.wanted != NOTHING {
+        return Said::Expected(t.wanted);
+    }
+    let v = t.said;
+    match call {
+        0 => Said::Message,
+        1 => Said::Buffer,
+        2 => sized(v[0], store),
+        _ => written(call, v, size, bytes, store),
+    }
+}
+
 // A line.
 pub fn one(s: &[u8], size: usize, bytes: &mut [u8; LONGEST], store: &mut [u8; LARGEST]) -> Said {
     let word = field(s, 0);
@@ -283,14 +287,5 @@ pub fn one(s: &[u8], size: usize, bytes: &mut [u8; LONGEST], store: &mut [u8; LA
         return loaded(s, store);
     }
     let t = take(s, fields_of(call), bytes);
-    if t.wanted != NOTHING {
-        return Said::Expected(t.wanted);
-    }
-    let v = t.said;
-    match call {
-        0 => Said::Message,
-        1 => Said::Buffer,
-        2 => sized(v[0], store),
-        _ => written(call, v, size, bytes, store),
-    }
+    called(call, t, size, bytes, store)
 }

@@ -39,9 +39,7 @@ fn nothing() -> Found {
 
 pub fn is_blank(b: u8) -> bool {
     match b {
-        9 => true,
-        13 => true,
-        32 => true,
+        9 | 13 | 32 => true,
         _ => false,
     }
 }

@@ -209,8 +209,7 @@ fn main() {
         1 => read::command(),
         2 => write_command(),
         3 => check_command(),
-        4 => help(),
-        5 => help(),
+        4 | 5 => help(),
         _ => refuse(1),
     }
 }

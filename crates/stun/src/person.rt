@@ -91,8 +91,7 @@ pub fn bad(colour: bool, words: &[u8]) {
 // A quote and a backslash stand behind a backslash.
 fn ordinary(b: u8) {
     match b {
-        34 => sign(b'\\'),
-        92 => sign(b'\\'),
+        34 | 92 => sign(b'\\'),
         _ => (),
     }
     sign(b);
