@@ -115,48 +115,73 @@ fn fits(n: u64, wanted: usize) -> bool {
 // What was wanted and isn't there, and the number or the size that each field says.
 struct Taken {
     wanted: usize,
-    said: [u64; FIELDS],
+    first: u64,
+    second: u64,
+    third: u64,
+    fourth: u64,
+    last: u64,
+}
+
+// With what the next field says: it is the last then, and the others move on, so that all are in their places in the end.
+fn with(t: Taken, n: Number, wanted: usize) -> Taken {
+    let mut t = t;
+    if let Number::Is(k) = n {
+        if fits(k, wanted) {
+            return Taken {
+                wanted: NOTHING,
+                first: t.second,
+                second: t.third,
+                third: t.fourth,
+                fourth: t.last,
+                last: k,
+            };
+        }
+    }
+    t.wanted = wanted;
+    t
 }
 
 // The fields of a line; their bytes go to `bytes`.
 fn take(s: &[u8], wanted: [usize; FIELDS], bytes: &mut [u8; LONGEST]) -> Taken {
-    let mut said = [0u64; FIELDS];
-    let mut before = 0;
+    let mut t = Taken {
+        wanted: NOTHING,
+        first: 0,
+        second: 0,
+        third: 0,
+        fourth: 0,
+        last: 0,
+    };
     let mut i = 0;
     while i < FIELDS {
         let w = wanted[i];
-        let n = match number_of(field(s, i + 1), w, before, bytes) {
-            Number::Is(n) => n,
-            Number::Not => return Taken { wanted: w, said },
-        };
-        if !fits(n, w) {
-            return Taken { wanted: w, said };
+        t = with(t, number_of(field(s, i + 1), w, t.last, bytes), w);
+        if t.wanted != NOTHING {
+            return t;
         }
-        said[i] = n;
-        before = n;
         i += 1;
     }
-    Taken {
-        wanted: NOTHING,
-        said,
-    }
+    t
 }
 
 // begin CLASS METHOD ID
-fn begun(class: u64, method: u64, bytes: &[u8], message: &mut [u8]) -> Written {
+fn begun(t: Taken, bytes: &[u8], message: &mut [u8]) -> Written {
     let mut id = [0u8; 12];
     numbers::put_bytes(&mut id, 0, part(bytes, 0, 12));
     begin::begin(
         message,
-        class_of(class),
-        Method { code: low(method) },
+        class_of(t.first),
+        Method {
+            code: low(t.second),
+        },
         TransactionId { bytes: id },
     )
 }
 
-// raw TYPE VALUE PADDING, with the sizes of the last two
-fn raw(kind: u64, n: usize, m: usize, bytes: &[u8], message: &mut [u8]) -> Written {
-    append::append_raw(message, low(kind), part(bytes, 0, n), part(bytes, n, m))
+// raw TYPE VALUE PADDING
+fn raw(t: Taken, bytes: &[u8], message: &mut [u8]) -> Written {
+    let n = t.second as usize;
+    let padding = part(bytes, n, t.third as usize);
+    append::append_raw(message, low(t.first), part(bytes, 0, n), padding)
 }
 
 fn is_pair(family: Family, n: u64, ip: &[u8]) -> bool {
@@ -173,7 +198,6 @@ fn socket_addr(family: Family, port: u16, ip: &[u8]) -> SocketAddr {
     }
 }
 
-// address TYPE FAMILY PORT IPHEX
 // A family and a size that are no pair break the rule of an address, whatever its bytes: 23, unless the front is no message.
 fn addressed(kind: AddressKind, family: u64, port: u16, ip: &[u8], message: &mut [u8]) -> Written {
     if is_pair(Family::Ipv4, family, ip) {
@@ -187,6 +211,12 @@ fn addressed(kind: AddressKind, family: u64, port: u16, ip: &[u8], message: &mut
     append_typed::append_value(message, 23, kind.as_u16(), b"")
 }
 
+// address TYPE FAMILY PORT IPHEX
+fn address(t: Taken, bytes: &[u8], message: &mut [u8]) -> Written {
+    let ip = part(bytes, 0, t.fourth as usize);
+    addressed(address_of(t.first), t.second, low(t.third), ip, message)
+}
+
 // text TYPE HEX, error CODE HEX, types T,T,.., integrity HEX and fingerprint, with the bytes of the last field
 fn added(call: usize, first: u64, last: &[u8], message: &mut [u8]) -> Written {
     match call {
@@ -198,32 +228,23 @@ fn added(call: usize, first: u64, last: &[u8], message: &mut [u8]) -> Written {
     }
 }
 
-// The calls on a message, by what their fields say.
-fn made(call: usize, v: [u64; FIELDS], bytes: &[u8], message: &mut [u8]) -> Written {
-    let a = v[0];
-    let b = v[1];
-    let c = v[2];
+// The calls on a message, by their numbers.
+fn made(call: usize, t: Taken, bytes: &[u8], message: &mut [u8]) -> Written {
     match call {
-        4 => begun(a, b, bytes, message),
-        5 => raw(a, b as usize, c as usize, bytes, message),
-        6 => addressed(
-            address_of(a),
-            b,
-            low(c),
-            part(bytes, 0, v[3] as usize),
-            message,
-        ),
-        7 | 8 => added(call, a, part(bytes, 0, b as usize), message),
-        _ => added(call, a, part(bytes, 0, a as usize), message),
+        4 => begun(t, bytes, message),
+        5 => raw(t, bytes, message),
+        6 => address(t, bytes, message),
+        7 | 8 => added(call, t.first, part(bytes, 0, t.second as usize), message),
+        _ => added(call, t.first, part(bytes, 0, t.first as usize), message),
     }
 }
 
 // What comes of a call on a message; the buffer is the first bytes of the store, so many.
-fn written(call: usize, v: [u64; FIELDS], size: usize, bytes: &[u8], store: &mut [u8]) -> Said {
+fn written(call: usize, t: Taken, size: usize, bytes: &[u8], store: &mut [u8]) -> Said {
     if store.len() < size {
         return Said::Nothing;
     }
-    let w = made(call, v, bytes, &mut store[0..size]);
+    let w = made(call, t, bytes, &mut store[0..size]);
     match w {
         Written::Total { size: n } => Said::Total(n),
         Written::Refused { number } => Said::Refused(number),
@@ -267,12 +288,11 @@ fn called(call: usize, t: Taken, size: usize, bytes: &[u8], store: &mut [u8; LAR
     if t.wanted != NOTHING {
         return Said::Expected(t.wanted);
     }
-    let v = t.said;
     match call {
         0 => Said::Message,
         1 => Said::Buffer,
-        2 => sized(v[0], store),
-        _ => written(call, v, size, bytes, store),
+        2 => sized(t.first, store),
+        _ => written(call, t, size, bytes, store),
     }
 }
 

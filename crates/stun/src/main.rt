@@ -48,14 +48,6 @@ fn help() {
     );
 }
 
-// An argument that is not understood.
-fn unknown(word: &[u8]) {
-    complain(b"stun: not understood: ");
-    complain(word);
-    complain(b" (stun alone shows the commands)\n");
-    status(2);
-}
-
 // An argument's place in a list of words.
 pub fn word_at(i: usize, list: &[u8]) -> usize {
     let mut arg = [0u8; 16];
@@ -63,11 +55,14 @@ pub fn word_at(i: usize, list: &[u8]) -> usize {
     position(&arg[..n], list)
 }
 
-// Refuses what stands at an argument's place.
+// Refuses the argument at a place.
 fn refuse(i: usize) {
     let mut arg = io::buffer();
     let n = os::arg(i, &mut arg);
-    unknown(&arg[..n]);
+    complain(b"stun: not understood: ");
+    complain(&arg[..n]);
+    complain(b" (stun alone shows the commands)\n");
+    status(2);
 }
 
 fn bad_key(p: usize) -> usize {

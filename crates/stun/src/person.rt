@@ -185,22 +185,16 @@ fn ipv6(ip: &[u8]) {
         u16_at(ip, 12),
         u16_at(ip, 14),
     ];
+    sign(b'[');
     shortened(&g);
-}
-
-fn ip(family: Family, bytes: &[u8]) {
-    match family {
-        Family::Ipv4 => ipv4(bytes),
-        Family::Ipv6 => {
-            sign(b'[');
-            ipv6(bytes);
-            sign(b']');
-        }
-    }
+    sign(b']');
 }
 
 fn address(family: Family, port: u16, bytes: [u8; 16]) {
-    ip(family, &bytes);
+    match family {
+        Family::Ipv4 => ipv4(&bytes),
+        Family::Ipv6 => ipv6(&bytes),
+    }
     sign(b':');
     decimal(port as u64);
 }
@@ -252,14 +246,6 @@ fn checked_print(d: &[u8], at: usize, value: &[u8], colour: bool) {
     bad_print(sum, colour);
 }
 
-fn raw(d: &[u8], at: usize, kind: u16, value: &[u8], colour: bool) {
-    if kind == fingerprint::FINGERPRINT {
-        checked_print(d, at, value, colour);
-        return;
-    }
-    hex(value);
-}
-
 fn list(value: &[u8]) {
     if value.len() == 0 {
         sign(b'-');
@@ -270,11 +256,15 @@ fn list(value: &[u8]) {
 
 // A value that says nothing but its bytes.
 fn plain(d: &[u8], at: usize, kind: u16, value: &[u8], colour: bool) {
+    if kind == fingerprint::FINGERPRINT {
+        checked_print(d, at, value, colour);
+        return;
+    }
     let rule = rfc5389::rule_of(kind);
     match rule {
         Rule::Text => quoted(value),
         Rule::Types => list(value),
-        _ => raw(d, at, kind, value, colour),
+        _ => hex(value),
     }
 }
 

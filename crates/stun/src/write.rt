@@ -69,13 +69,6 @@ fn tell(what: Said, buffer: &[u8], buf: &mut [u8; ROOM]) {
     }
 }
 
-fn size_after(what: Said, size: usize) -> usize {
-    let Said::Size(n) = what else {
-        return size;
-    };
-    n
-}
-
 fn said(
     f: Feed,
     input: &[u8],
@@ -100,7 +93,10 @@ fn line(
     buf: &mut [u8; ROOM],
 ) -> usize {
     let what = said(f, input, size, bytes, store);
-    let now = size_after(what, size);
+    let now = match what {
+        Said::Size(n) => n,
+        _ => size,
+    };
     tell(what, part(store, 0, now), buf);
     if feed::idle(f) {
         output::flush(buf);

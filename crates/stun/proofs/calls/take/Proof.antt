@@ -4,10 +4,10 @@ use Rattle.stun.proofs.calls.take.Statement.{statement}
 use Rattle.stun.proofs.calls.take.Tie as tie
 
 abbrev Inv-loop : tie.InvT-loop
-Inv-loop s bytes₀ wanted said₀ before₀ i₀ bytes said before i = Unit {0}
+Inv-loop s bytes₀ wanted t₀ i₀ bytes t i = Unit {0}
 
 abbrev μ-loop : tie.MeasureT-loop
-μ-loop s bytes₀ wanted said₀ before₀ i₀ bytes said before i = 5 - i
+μ-loop s bytes₀ wanted t₀ i₀ bytes t i = 5 - i
 
 pub take-spec : {M : Type 1} → statement M
 take-spec =
@@ -21,12 +21,7 @@ take-spec =
     (λ c. search needs)
     (λ c κs. search needs)
     (λ c κs. search needs)
-    (λ c. search needs)
-    (λ c. search needs)
-    (λ c. search needs)
     (λ c κs. search needs)
-    (λ c. search needs)
-    (λ c. search needs)
     (λ c. search needs)
     (λ c. search needs)
     (λ c. search needs)
