@@ -190,33 +190,24 @@ fn said(buf: &mut [u8; ROOM], kind: u16, value: &[u8], id: TransactionId) {
     }
 }
 
-fn known(kind: u16) -> bool {
-    let s = rfc5389::sizes_of(kind);
-    match s {
-        Sizes::Unknown => false,
-        Sizes::Between {
-            least: _,
-            greatest: _,
-        } => true,
+// Nothing for a type that isn't known; a blank parts the values. Has nothing been shown yet?
+fn shown(
+    buf: &mut [u8; ROOM],
+    none: bool,
+    at: usize,
+    kind: u16,
+    value: &[u8],
+    id: TransactionId,
+) -> bool {
+    if let Sizes::Unknown = rfc5389::sizes_of(kind) {
+        return none;
     }
-}
-
-// Nothing for a type that isn't known; a blank parts the values.
-fn shown(buf: &mut [u8; ROOM], first: bool, at: usize, kind: u16, value: &[u8], id: TransactionId) {
-    if !known(kind) {
-        return;
-    }
-    if !first {
+    if !none {
         sign(buf, b' ');
     }
     named(buf, at, kind);
     said(buf, kind, value, id);
-}
-
-fn closed(buf: &mut [u8; ROOM], none: bool) {
-    if none {
-        sign(buf, b'-');
-    }
+    false
 }
 
 // PLACE:TYPE:VALUE for each attribute of a known type that the walk from place 20 visits.
@@ -236,11 +227,12 @@ fn values(d: &[u8], buf: &mut [u8; ROOM]) {
             next,
         } = w
         else {
-            closed(buf, none);
+            if none {
+                sign(buf, b'-');
+            }
             return;
         };
-        shown(buf, none, at, kind, part(d, value, size), id);
-        none = none && !known(kind);
+        none = shown(buf, none, at, kind, part(d, value, size), id);
         place = next;
         left -= 1;
     }
