@@ -54,21 +54,17 @@ fn cells(s: &[u8], at: usize, mark: Span, colour: bool) {
     }
 }
 
-// Sixteen bytes from a place on, or as many as there are.
-fn row_at(d: &[u8], at: usize) -> &[u8] {
-    let left = minus(d.len(), at);
-    if left < 16 {
-        return part(d, at, left);
-    }
-    part(d, at, 16)
-}
-
-// A row behind a line end.
+// A row behind a line end: sixteen bytes from a place on, or as many as there are.
 fn row(d: &[u8], at: usize, mark: Span, colour: bool) {
     sign(b'\n');
     column(at, 5);
     sign(b' ');
-    cells(row_at(d, at), at, mark, colour);
+    let left = minus(d.len(), at);
+    if left < 16 {
+        cells(part(d, at, left), at, mark, colour);
+        return;
+    }
+    cells(part(d, at, 16), at, mark, colour);
 }
 
 // The rows with marked bytes, with up to two before and two behind them.

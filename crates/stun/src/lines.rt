@@ -42,22 +42,17 @@ pub fn plus(a: u64, b: u64) -> u64 {
     a + b
 }
 
-// The answer to a line that is no hex.
-fn bad_line(buf: &mut [u8; ROOM]) {
+// The answer to a line that is no hex: by the column of the first character that is no digit, or 0 where the digits are an
+// odd number.
+fn bad_line(line: u64, column: u64, buf: &mut [u8; ROOM]) {
+    complain_number(b"stun: line ", line);
+    if column == 0 {
+        complain(b": an odd number of hex digits\n");
+    } else {
+        complain_column(column);
+    }
     faulty(buf);
     put(buf, b"?\n");
-}
-
-fn not_hex(line: u64, column: u64, buf: &mut [u8; ROOM]) {
-    complain_number(b"stun: line ", line);
-    complain_column(column);
-    bad_line(buf);
-}
-
-fn odd(line: u64, buf: &mut [u8; ROOM]) {
-    complain_number(b"stun: line ", line);
-    complain(b": an odd number of hex digits\n");
-    bad_line(buf);
 }
 
 // A line's size without the carriage return of a line end of two characters.
@@ -85,8 +80,8 @@ fn one(s: &[u8], line: u64, job: Job, key: &[u8], raw: &mut [u8; MOST], buf: &mu
     let h = text::unhex(part(s, 0, without_return(s)), raw);
     match h {
         Hex::Bytes(size) => answer(first(raw, size), job, key, buf),
-        Hex::Bad(p) => not_hex(line, plus(p as u64, 1), buf),
-        Hex::Odd => odd(line, buf),
+        Hex::Bad(p) => bad_line(line, plus(p as u64, 1), buf),
+        Hex::Odd => bad_line(line, 0, buf),
     }
 }
 
@@ -106,7 +101,7 @@ fn more(c: State, s: &[u8]) -> State {
 
 fn end_digits(digits: u64, line: u64, job: Job, key: &[u8], raw: &[u8], buf: &mut [u8; ROOM]) {
     if digits % 2 != 0 {
-        odd(line, buf);
+        bad_line(line, 0, buf);
         return;
     }
     answer(raw, job, key, buf);
@@ -125,7 +120,7 @@ fn end_long(c: State, line: u64, job: Job, key: &[u8], raw: &[u8], buf: &mut [u8
             return;
         }
     }
-    not_hex(line, bad, buf);
+    bad_line(line, bad, buf);
 }
 
 // A line has ended, and the next one starts at a place.

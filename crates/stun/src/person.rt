@@ -32,23 +32,15 @@ pub fn column(n: usize, width: usize) {
     say(&digits[..k]);
 }
 
-// A type's name, or its number where it has none.
-fn kind_name(kind: u16) {
+// A type's name, or its number where it has none; answers how many characters that takes.
+fn kind_name(kind: u16) -> usize {
     let n = names::attribute(kind);
     if n.size == 0 {
         say(b"0x");
         word(kind as u64, 4);
-        return;
-    }
-    named(n);
-}
-
-// How many characters that takes.
-fn name_size(kind: u16) -> usize {
-    let n = names::attribute(kind);
-    if n.size == 0 {
         return 6;
     }
+    named(n);
     n.size
 }
 
@@ -56,8 +48,7 @@ fn name_size(kind: u16) -> usize {
 pub fn row(at: usize, kind: u16, size: usize) {
     column(at, 5);
     say(b"  ");
-    kind_name(kind);
-    blanks(minus(18, name_size(kind)));
+    blanks(minus(18, kind_name(kind)));
     column(size, 6);
     say(b"  ");
 }

@@ -6,7 +6,7 @@ use crate::output::faulty;
 use crate::output::put;
 use crate::output::sign;
 
-// Where nothing is.
+// All that was wanted is there.
 pub const NOTHING: usize = usize::MAX;
 
 pub const CALL: usize = 0;
