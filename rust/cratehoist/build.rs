@@ -4,7 +4,7 @@ use std::process::Command;
 
 fn main() {
     let root = Path::new(env!("CARGO_MANIFEST_DIR")).join("../..");
-    for part in ["crates", "crates.txt", "tools/native-lib"] {
+    for part in ["crates", "crates.txt", "tools"] {
         println!("cargo:rerun-if-changed={}", root.join(part).display());
     }
     let made = Command::new(root.join("tools/native-lib"))

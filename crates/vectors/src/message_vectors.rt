@@ -13,6 +13,7 @@ use rfc5389::errors::UnknownAttribute;
 use rfc5389::methods::BINDING;
 use typed::Value;
 use typed::XOR_MAPPED_ADDRESS;
+use wire::transaction_id::TransactionId;
 
 fn put(s: &[u8]) {
     io::write_all(STDOUT_FILENO, s);
@@ -37,38 +38,45 @@ fn name(section: &[u8], what: &[u8]) {
     put(what);
 }
 
+fn whole(section: &[u8], class: u16, method: u16, count: usize, id: TransactionId) {
+    name(section, b" whole");
+    number(class as usize);
+    number(method as usize);
+    number(count);
+    put(b" ");
+    let bytes = id.bytes;
+    hex(&bytes);
+}
+
+fn broken(section: &[u8], reason: u8, place: usize) {
+    name(section, b" broken");
+    number(reason as usize);
+    number(place);
+}
+
+fn refused(section: &[u8], n: u8) {
+    name(section, b" refused");
+    number(n as usize);
+}
+
 // The reader's answer.
 fn read(section: &[u8], d: &[u8]) {
     let r = message::read(d);
+    let id = r.id;
     let answer = r.answer;
     match answer {
         Answer::Whole {
             class,
             method,
             count,
-        } => {
-            name(section, b" whole");
-            number(class.as_u16() as usize);
-            number(method.code as usize);
-            number(count);
-            put(b" ");
-            let id = r.id.bytes;
-            hex(&id);
-        }
+        } => whole(section, class.as_u16(), method.code, count, id),
         Answer::Broken {
             class: _,
             method: _,
             reason,
             place,
-        } => {
-            name(section, b" broken");
-            number(reason as usize);
-            number(place);
-        }
-        Answer::Refused { number: n } => {
-            name(section, b" refused");
-            number(n as usize);
-        }
+        } => broken(section, reason, place),
+        Answer::Refused { number: n } => refused(section, n),
     }
     put(b"\n");
 }
@@ -96,6 +104,15 @@ fn realm<'a>(section: &[u8], d: &'a [u8], site: &'a [u8]) {
 }
 
 // XOR-MAPPED-ADDRESS: family, port and IP.
+fn family_port_ip(section: &[u8], family: u8, port: u16, ip: [u8; 16]) {
+    name(section, b"_address");
+    number(family as usize);
+    number(port as usize);
+    put(b" ");
+    hex(&ip);
+    put(b"\n");
+}
+
 fn address(section: &[u8], d: &[u8]) {
     let r = message::read(d);
     let id = r.id;
@@ -107,12 +124,7 @@ fn address(section: &[u8], d: &[u8]) {
     let v = t.value;
     let ip = t.ip;
     if let Value::Address { family, port } = v {
-        name(section, b"_address");
-        number(family.as_u8() as usize);
-        number(port as usize);
-        put(b" ");
-        hex(&ip);
-        put(b"\n");
+        family_port_ip(section, family.as_u8(), port, ip);
     }
 }
 
@@ -176,20 +188,19 @@ fn long_term_request() {
     );
 }
 
-// 2.1 with one bit of its FINGERPRINT changed, and a message without MESSAGE-INTEGRITY.
-fn refusals() {
-    let changed =
+// 2.1 with one bit of its FINGERPRINT changed.
+fn changed() {
+    let d =
         b"\x00\x01\x00X!\x12\xA4B\xB7\xE7\xA7\x01\xBC4\xD6\x86\xFA\x87\xDF\xAE\x80\x22\x00\x10STUN\
         \x20test client\x00$\x00\x04n\x00\x01\xFF\x80)\x00\x08\x93/\xF9\xB1Q&;6\x00\x06\x00\x09e\
         vtj:h6vY   \x00\x08\x00\x14\x9A\xEA\xA7\x0C\xBF\xD8\xCBVx\x1E\xF2\xB5\xB2\xD3\xF2I\xC1\
         \xB5q\xA2\x80(\x00\x04\xE5z;\xCE";
-    read(b"fingerprint_changed", changed);
-    checked(
-        b"fingerprint_changed",
-        b"_integrity",
-        changed,
-        b"VOkJxbRl1RmTxUk/WvJxBt",
-    );
+    let name = b"fingerprint_changed";
+    read(name, d);
+    checked(name, b"_integrity", d, b"VOkJxbRl1RmTxUk/WvJxBt");
+}
+
+fn no_integrity() {
     checked(
         b"no_integrity",
         b"",
@@ -198,44 +209,42 @@ fn refusals() {
     );
 }
 
+// A key, and another one.
+fn keyed(name: &[u8], d: &[u8], key: &[u8], other: &[u8]) {
+    checked(name, b"", d, key);
+    checked(name, b"_other", d, other);
+}
+
 // Keys of 0, 64 and 65 bytes, 0, 1, 2 and so on. The digests are those of Python's hmac.
-fn keys() {
-    let d =
+fn key_0() {
+    keyed(
+        b"key_0",
         b"\x00\x01\x00\x18!\x12\xA4B\x00\x01\x02\x03\x04\x05\x06\x07\x08\x09\x0A\x0B\x00\x08\x00\
-        \x14\x22,\xCE\xE8b<\xF3\x01\xE1\xD2\xF8\x9AE\x16&,\x0Fn\xB9~";
-    checked(b"key_0", b"", d, b"");
-    checked(b"key_0", b"_other", d, b"\x01");
-    let d =
-        b"\x00\x01\x00\x18!\x12\xA4B\x00\x01\x02\x03\x04\x05\x06\x07\x08\x09\x0A\x0B\x00\x08\x00\
-        \x14$\x99\xF3^\x84F;o[\xA5\xEC\x1C:\xD8\x0A\x80\xCD\xDD\xE2\xEC";
-    checked(
-        b"key_64",
+        \x14\x22,\xCE\xE8b<\xF3\x01\xE1\xD2\xF8\x9AE\x16&,\x0Fn\xB9~",
         b"",
-        d,
+        b"\x01",
+    );
+}
+
+fn key_64() {
+    keyed(
+        b"key_64",
+        b"\x00\x01\x00\x18!\x12\xA4B\x00\x01\x02\x03\x04\x05\x06\x07\x08\x09\x0A\x0B\x00\x08\x00\
+        \x14$\x99\xF3^\x84F;o[\xA5\xEC\x1C:\xD8\x0A\x80\xCD\xDD\xE2\xEC",
         b"\x00\x01\x02\x03\x04\x05\x06\x07\x08\x09\x0A\x0B\x0C\x0D\x0E\x0F\x10\x11\x12\x13\x14\x15\
         \x16\x17\x18\x19\x1A\x1B\x1C\x1D\x1E\x1F !\x22#$%&'()*+,-./0123456789:;<=>?",
-    );
-    checked(
-        b"key_64",
-        b"_other",
-        d,
         b"\x00\x01\x02\x03\x04\x05\x06\x07\x08\x09\x0A\x0B\x0C\x0D\x0E\x0F\x10\x11\x12\x13\x14\x15\
         \x16\x17\x18\x19\x1A\x1B\x1C\x1D\x1E\x1F !\x22#$%&'()*+,-./0123456789:;<=>>",
     );
-    let d =
-        b"\x00\x01\x00\x18!\x12\xA4B\x00\x01\x02\x03\x04\x05\x06\x07\x08\x09\x0A\x0B\x00\x08\x00\
-        \x14\x02\xA7\xD42\xEFBz\x0B59!\x7FNO\xEEwz\xBAt\xCE";
-    checked(
+}
+
+fn key_65() {
+    keyed(
         b"key_65",
-        b"",
-        d,
+        b"\x00\x01\x00\x18!\x12\xA4B\x00\x01\x02\x03\x04\x05\x06\x07\x08\x09\x0A\x0B\x00\x08\x00\
+        \x14\x02\xA7\xD42\xEFBz\x0B59!\x7FNO\xEEwz\xBAt\xCE",
         b"\x00\x01\x02\x03\x04\x05\x06\x07\x08\x09\x0A\x0B\x0C\x0D\x0E\x0F\x10\x11\x12\x13\x14\x15\
         \x16\x17\x18\x19\x1A\x1B\x1C\x1D\x1E\x1F !\x22#$%&'()*+,-./0123456789:;<=>?@",
-    );
-    checked(
-        b"key_65",
-        b"_other",
-        d,
         b"\x00\x01\x02\x03\x04\x05\x06\x07\x08\x09\x0A\x0B\x0C\x0D\x0E\x0F\x10\x11\x12\x13\x14\x15\
         \x16\x17\x18\x19\x1A\x1B\x1C\x1D\x1E\x1F !\x22#$%&'()*+,-./0123456789:;<=>?A",
     );
@@ -250,17 +259,26 @@ fn error(section: &[u8], code: u16, phrase: &[u8]) {
 }
 
 // The named error codes, and the method.
-fn named() {
+fn redirected() {
     error(b"error_300", TryAlternate::CODEPOINT, &TryAlternate::PHRASE);
     error(b"error_400", BadRequest::CODEPOINT, &BadRequest::PHRASE);
+}
+
+fn unauthorized() {
     error(b"error_401", Unauthorized::CODEPOINT, &Unauthorized::PHRASE);
     error(
         b"error_420",
         UnknownAttribute::CODEPOINT,
         &UnknownAttribute::PHRASE,
     );
+}
+
+fn stale() {
     error(b"error_438", StaleNonce::CODEPOINT, &StaleNonce::PHRASE);
     error(b"error_500", ServerError::CODEPOINT, &ServerError::PHRASE);
+}
+
+fn binding() {
     name(b"binding", b"");
     number(BINDING.code as usize);
     put(b"\n");
@@ -271,7 +289,13 @@ pub fn run() {
     ipv4_response();
     ipv6_response();
     long_term_request();
-    refusals();
-    keys();
-    named();
+    changed();
+    no_integrity();
+    key_0();
+    key_64();
+    key_65();
+    redirected();
+    unauthorized();
+    stale();
+    binding();
 }

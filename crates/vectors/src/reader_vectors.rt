@@ -16,9 +16,7 @@ fn kind(name: &[u8], reason: u8, class: u16, method: u16) {
 }
 
 // Kind, number, class, method, count, place.
-fn case(name: &[u8], d: &[u8]) {
-    io::write_all(STDOUT_FILENO, b"reader ");
-    io::write_all(STDOUT_FILENO, name);
+fn told(d: &[u8]) {
     let r = message::read(d);
     let answer = r.answer;
     match answer {
@@ -28,8 +26,7 @@ fn case(name: &[u8], d: &[u8]) {
             count,
         } => {
             kind(b" whole", 0, class.as_u16(), method.code);
-            number(count as u64);
-            number(0);
+            ended(count, 0);
         }
         Answer::Broken {
             class,
@@ -38,16 +35,25 @@ fn case(name: &[u8], d: &[u8]) {
             place,
         } => {
             kind(b" broken", reason, class.as_u16(), method.code);
-            number(0);
-            number(place as u64);
+            ended(0, place);
         }
         Answer::Refused { number: n } => {
             kind(b" refused", n, 0, 0);
-            number(0);
-            number(0);
+            ended(0, 0);
         }
     }
+}
+
+fn ended(count: usize, place: usize) {
+    number(count as u64);
+    number(place as u64);
     io::write_all(STDOUT_FILENO, b"\n");
+}
+
+fn case(name: &[u8], d: &[u8]) {
+    io::write_all(STDOUT_FILENO, b"reader ");
+    io::write_all(STDOUT_FILENO, name);
+    told(d);
 }
 
 pub fn wide(b: u8) -> usize

@@ -20,16 +20,30 @@ fn counting() -> [u8; 256] {
     s
 }
 
-pub fn run() {
+fn check() {
     line(b"check", crc32::crc32(b"123456789"));
+}
+
+fn in_parts() {
     let front = crc32::update(crc32::START, b"1234");
-    line(
-        b"check_in_parts",
-        crc32::finish(crc32::update(front, b"56789")),
-    );
+    let sum = crc32::update(front, b"56789");
+    line(b"check_in_parts", crc32::finish(sum));
+}
+
+fn short() {
     line(b"nothing", crc32::crc32(b""));
     line(b"nought", crc32::crc32(b"\x00"));
     line(b"four_ones", crc32::crc32(b"\xFF\xFF\xFF\xFF"));
+}
+
+fn longer() {
     line(b"noughts_32", crc32::crc32(&[0u8; 32]));
     line(b"counting_256", crc32::crc32(&counting()));
+}
+
+pub fn run() {
+    check();
+    in_parts();
+    short();
+    longer();
 }

@@ -60,33 +60,61 @@ fn fips_180_4() {
         b"sha1 two-block",
         sha1::hash(b"abcdbcdecdefdefgefghfghighijhijkijkljklmklmnlmnomnopnopq"),
     );
+}
+
+fn fips_180_4_ends() {
     named(b"sha1 empty", sha1::hash(b""));
     named(b"sha1 million-a", million());
 }
 
-fn rfc_2202() {
-    let k1 = [0x0bu8; 20];
-    named(b"hmac 1", hmac::hmac(&k1, b"Hi There"));
+// RFC 2202's seven.
+fn hmac_1() {
+    let key = [0x0bu8; 20];
+    named(b"hmac 1", hmac::hmac(&key, b"Hi There"));
+}
+
+fn hmac_2() {
     named(
         b"hmac 2",
         hmac::hmac(b"Jefe", b"what do ya want for nothing?"),
     );
-    let k3 = [0xaau8; 20];
-    let d3 = [0xddu8; 50];
-    named(b"hmac 3", hmac::hmac(&k3, &d3));
-    let k4 = counting();
-    let d4 = [0xcdu8; 50];
-    named(b"hmac 4", hmac::hmac(&k4[1..26], &d4));
 }
 
-fn rfc_2202_more() {
-    let k5 = [0x0cu8; 20];
-    named(b"hmac 5", hmac::hmac(&k5, b"Test With Truncation"));
-    let k6 = [0xaau8; 80];
-    let six = b"Test Using Larger Than Block-Size Key - Hash Key First";
-    named(b"hmac 6", hmac::hmac(&k6, six));
-    let seven = b"Test Using Larger Than Block-Size Key and Larger Than One Block-Size Data";
-    named(b"hmac 7", hmac::hmac(&k6, seven));
+fn hmac_3() {
+    let key = [0xaau8; 20];
+    let data = [0xddu8; 50];
+    named(b"hmac 3", hmac::hmac(&key, &data));
+}
+
+fn hmac_4() {
+    let key = counting();
+    let data = [0xcdu8; 50];
+    named(b"hmac 4", hmac::hmac(&key[1..26], &data));
+}
+
+fn hmac_5() {
+    let key = [0x0cu8; 20];
+    named(b"hmac 5", hmac::hmac(&key, b"Test With Truncation"));
+}
+
+// The same key of 80 bytes.
+fn hmac_with_long_key(name: &[u8], s: &[u8]) {
+    let key = [0xaau8; 80];
+    named(name, hmac::hmac(&key, s));
+}
+
+fn hmac_6() {
+    hmac_with_long_key(
+        b"hmac 6",
+        b"Test Using Larger Than Block-Size Key - Hash Key First",
+    );
+}
+
+fn hmac_7() {
+    hmac_with_long_key(
+        b"hmac 7",
+        b"Test Using Larger Than Block-Size Key and Larger Than One Block-Size Data",
+    );
 }
 
 // Messages of each size.
@@ -126,23 +154,41 @@ fn edges() {
     fronts(&s, 199, 202);
 }
 
-fn comparisons() {
-    let d = hmac::hmac(b"key", b"message");
-    let mut first = d;
-    first[0] = first[0] ^ 1;
-    let mut last = d;
-    last[19] = last[19] ^ 128;
-    agree(b"hmac same", d, &d);
-    agree(b"hmac first-differs", d, &first);
-    agree(b"hmac last-differs", d, &last);
+fn first_differs(d: [u8; 20]) {
+    let mut other = d;
+    other[0] = other[0] ^ 1;
+    agree(b"hmac first-differs", d, &other);
+}
+
+fn last_differs(d: [u8; 20]) {
+    let mut other = d;
+    other[19] = other[19] ^ 128;
+    agree(b"hmac last-differs", d, &other);
+}
+
+fn shorter(d: [u8; 20]) {
     agree(b"hmac shorter", d, &d[0..19]);
     agree(b"hmac none", d, b"");
 }
 
+fn comparisons() {
+    let d = hmac::hmac(b"key", b"message");
+    agree(b"hmac same", d, &d);
+    first_differs(d);
+    last_differs(d);
+    shorter(d);
+}
+
 pub fn run() {
     fips_180_4();
-    rfc_2202();
-    rfc_2202_more();
+    fips_180_4_ends();
+    hmac_1();
+    hmac_2();
+    hmac_3();
+    hmac_4();
+    hmac_5();
+    hmac_6();
+    hmac_7();
     edges();
     comparisons();
 }
