@@ -1,4 +1,3 @@
 mod Blaming
 mod Runs
-mod Escaping
 mod Determined

@@ -1,4 +1,3 @@
 pub mod Span
 pub mod Blame
 pub mod Zeros
-pub mod Escape

@@ -1,10 +1,9 @@
-// What a person is shown: the bytes that a number is about, the zeros that an IPv6 address leaves out, and what a text escapes.
+// What a person is shown: the bytes that a number is about, and the zeros that an IPv6 address leaves out.
 ghost use mathlib.Core.Path.{_≡_};
 ghost use Prim.Native.Nat.{_≤_, _<_};
 ghost use lib.ListN.{length, drop};
 ghost use Rattle.display.specs.Blame.{within, inAttribute, blamed};
 ghost use Rattle.display.specs.Zeros.{leading, betterOf, longest};
-ghost use Rattle.display.specs.Escape.{high, escaped};
 use numbers::u16_at;
 
 // So many places from one on.
@@ -101,32 +100,4 @@ pub fn longest_zeros(groups: &[u16]) -> Span
         return Span { at: 0, size: 0 };
     }
     best
-}
-
-fn is_high(b: u8) -> bool
-    ensures { λ r. ⌜ r ≡ high b ⌝ }
-{
-    if b < 0x80 {
-        return false;
-    }
-    b < 0xA0
-}
-
-// Is a byte of a text shown by its number? Its neighbours are 0 where there is none.
-pub fn is_escaped(before: u8, b: u8, after: u8) -> bool
-    ensures { λ r. ⌜ r ≡ escaped before b after ⌝ }
-{
-    if b < 32 {
-        return true;
-    }
-    if b == 127 {
-        return true;
-    }
-    if b == 0xC2 {
-        return is_high(after);
-    }
-    if before == 0xC2 {
-        return is_high(b);
-    }
-    false
 }

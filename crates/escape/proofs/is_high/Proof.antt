@@ -1,7 +1,7 @@
-use Rattle.display.proofs.Escaping.{low, not-low}
+use Rattle.escape.proofs.Escaping.{low, not-low}
 use borrow.Author.Needs.{needs}
-use Rattle.display.proofs.is_high.Statement.{statement}
-use Rattle.display.proofs.is_high.Tie as tie
+use Rattle.escape.proofs.is_high.Statement.{statement}
+use Rattle.escape.proofs.is_high.Tie as tie
 
 returns : tie.Need-returns
 returns c = search (low)

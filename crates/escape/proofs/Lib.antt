@@ -1,0 +1,2 @@
+mod Escaping
+mod Determined
