@@ -6,7 +6,7 @@ use Rattle.base.specs.Determined.{Determines, by}
 use Rattle.rfc5389.specs.Rows.{rfc5389}
 use Rattle.append.specs.Append.{answer, appended}
 use Rattle.append_typed.specs.Typed.{typed, refusal}
-use Rattle.append_fields.specs.Fields.{codeValue, codeRefusal}
+use Rattle.error_codes.specs.ErrorCode.{codeValue, codeRefusal}
 use Rattle.c_write.specs.Said.{told}
 use Rattle.c_append.specs.Said.{textFault, ofAddress}
 use Rattle.c_wire.specs.declared.Address.{Address}

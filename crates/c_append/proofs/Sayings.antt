@@ -16,9 +16,9 @@ use Rattle.append.specs.Append.{answer, appended}
 use Rattle.append_typed.specs.Typed.{typed, refusal, textNumber}
 use Rattle.append_typed.specs.declared.TextKind.{TextKind}
 use Rattle.append_typed.specs.declared.TextKind.the-variants.{Username, Realm, Nonce, Software}
-use Rattle.append_fields.specs.Fields.{addressNumber, addressValue, given}
-use Rattle.append_fields.specs.declared.AddressKind.{AddressKind}
-use Rattle.append_fields.specs.declared.AddressKind.the-variants.{MappedAddress, XorMappedAddress, AlternateServer}
+use Rattle.addresses.specs.Address.{addressNumber, addressValue, given}
+use Rattle.addresses.specs.declared.AddressKind.{AddressKind}
+use Rattle.addresses.specs.declared.AddressKind.the-variants.{MappedAddress, XorMappedAddress, AlternateServer}
 use Rattle.c_wire.specs.Said.{addr}
 use Rattle.c_wire.specs.declared.Address as c
 use Rattle.c_write.specs.Said.{told}

@@ -12,9 +12,9 @@ use Rattle.rfc5389.specs.Fault.{ruleOf}
 use Rattle.rfc5389.specs.declared.Rule.{Rule}
 use Rattle.rfc5389.specs.declared.Rule.the-variants.{Address, Text, Code, Types, Plain}
 use Rattle.append_typed.specs.Typed.{typed, refusal}
-use Rattle.append_fields.specs.Fields.{addressNumber, addressValue, given}
-use Rattle.append_fields.specs.declared.AddressKind.{AddressKind}
-use Rattle.append_fields.specs.declared.AddressKind.the-variants.{MappedAddress, XorMappedAddress, AlternateServer}
+use Rattle.addresses.specs.Address.{addressNumber, addressValue, given}
+use Rattle.addresses.specs.declared.AddressKind.{AddressKind}
+use Rattle.addresses.specs.declared.AddressKind.the-variants.{MappedAddress, XorMappedAddress, AlternateServer}
 use Rattle.c_wire.specs.Said.{addr}
 use Rattle.c_wire.specs.declared.Address as c
 

@@ -3,11 +3,11 @@ ghost use mathlib.Core.Path.{_≡_};
 ghost use Rattle.rfc5389.specs.Rows.{rfc5389};
 ghost use Rattle.append.specs.Append.{answer, appended};
 ghost use Rattle.append_typed.specs.Typed.{typed, refusal};
-ghost use Rattle.append_fields.specs.Fields.{codeValue, codeRefusal};
+ghost use Rattle.error_codes.specs.ErrorCode.{codeValue, codeRefusal};
 ghost use Rattle.c_write.specs.Said.{told};
 ghost use Rattle.c_append.specs.Said.{textFault, ofKind, ofAddress};
-use append_fields::AddressKind;
-use append_fields::append_address;
+use addresses::AddressKind;
+use addresses::append_address;
 use append_typed::append_value;
 use c_wire::Address;
 use c_write::Written;
@@ -126,5 +126,5 @@ pub extern "C" fn cratehoist_append_error_code(
     ensures { λ r. ⌜ (r ≡ told (answer (now (buffer .entry)) (codeRefusal rfc5389 code (now (phrase .entry))) (typed 0x0009 (codeValue code (now (phrase .entry))))))
         × (now (buffer .exit) ≡ appended (now (buffer .entry)) (codeRefusal rfc5389 code (now (phrase .entry))) (typed 0x0009 (codeValue code (now (phrase .entry))))) ⌝ }
 {
-    in_numbers(append_fields::append_error_code(buffer, code, phrase))
+    in_numbers(error_codes::append_error_code(buffer, code, phrase))
 }
