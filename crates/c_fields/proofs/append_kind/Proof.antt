@@ -1,7 +1,7 @@
-use Rattle.c_append.proofs.Sayings.{answers, leaves, mapped, xor-mapped, alternate, no-kind}
+use Rattle.c_fields.proofs.Sayings.{answers, leaves, mapped, xor-mapped, alternate, no-kind}
 use borrow.Author.Needs.{needs}
-use Rattle.c_append.proofs.append_kind.Statement.{statement}
-use Rattle.c_append.proofs.append_kind.Tie as tie
+use Rattle.c_fields.proofs.append_kind.Statement.{statement}
+use Rattle.c_fields.proofs.append_kind.Tie as tie
 
 returns : tie.Need-returns
 returns c = (search (answers, mapped), search (leaves, mapped))

@@ -1,7 +1,7 @@
-use Rattle.c_append.proofs.Sayings.{tells-4, keeps-4, tells-6, keeps-6, tells-none, keeps-none}
+use Rattle.c_fields.proofs.Sayings.{tells-4, keeps-4, tells-6, keeps-6, tells-none, keeps-none}
 use borrow.Author.Needs.{needs}
-use Rattle.c_append.proofs.cratehoist_append_address.Statement.{statement}
-use Rattle.c_append.proofs.cratehoist_append_address.Tie as tie
+use Rattle.c_fields.proofs.cratehoist_append_address.Statement.{statement}
+use Rattle.c_fields.proofs.cratehoist_append_address.Tie as tie
 
 returns : tie.Need-returns
 returns c = (search (tells-4), search (keeps-4))

@@ -1,8 +1,8 @@
 use Rattle.base.specs.Through.{through}
 use Rattle.c_write.specs.Said.{told}
 use borrow.Author.Needs.{needs}
-use Rattle.c_append.proofs.cratehoist_append_error_code.Statement.{statement}
-use Rattle.c_append.proofs.cratehoist_append_error_code.Tie as tie
+use Rattle.c_fields.proofs.cratehoist_append_error_code.Statement.{statement}
+use Rattle.c_fields.proofs.cratehoist_append_error_code.Tie as tie
 
 returns : tie.Need-returns
 returns c = (search (through told), search needs)
