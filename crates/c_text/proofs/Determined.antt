@@ -3,8 +3,9 @@ use Prim.Native.Nat.{ℕ}
 use mathlib.Core.List.{List}
 use mathlib.Core.Path.{ap₂}
 use Rattle.base.specs.Determined.{Determines, by}
-use Rattle.text.specs.Hex.{firstBad, hexOf, read, shown, showing}
-use Rattle.text.specs.Number.{numberOf}
+use Rattle.digits.specs.Digit.{firstBad}
+use Rattle.digits.specs.Number.{numberOf}
+use Rattle.text.specs.Hex.{hexOf, read, shown, showing}
 use Rattle.names.specs.Names.{attributeName, codeName, numberName, methodName}
 use Rattle.c_text.specs.Said.{spelled, meant, told, classTold}
 use Rattle.c_text.specs.declared.Hex.{Hex}

@@ -6,10 +6,10 @@ use borrow.Author.Tests.{lt-ltb, le-ltb}
 use lib.ListN.{replicate}
 use Rattle.wire.specs.TypeNumber.{classNumbered}
 use Rattle.wire.specs.declared.types.MessageClass.{MessageClass}
+use Rattle.digits.specs.declared.Number as number
+use Rattle.digits.specs.declared.Number.the-variants.{Is, Not}
 use Rattle.text.specs.declared.Hex as text
 use Rattle.text.specs.declared.Hex.the-variants.{Bytes, Bad, Odd}
-use Rattle.text.specs.declared.Number as number
-use Rattle.text.specs.declared.Number.the-variants.{Is, Not}
 use Rattle.names.specs.Names.{className}
 use Rattle.names.specs.declared.Name as names
 use Rattle.c_text.specs.Said.{spelled, meant, told, classTold}

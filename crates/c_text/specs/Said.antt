@@ -5,10 +5,10 @@ use lib.ListN.{replicate}
 use lib.Dec.{ltb}
 use Rattle.base.specs.Choice.{pick}
 use Rattle.wire.specs.TypeNumber.{classNumbered}
+use Rattle.digits.specs.declared.Number as number
+use Rattle.digits.specs.declared.Number.the-variants.{Is, Not}
 use Rattle.text.specs.declared.Hex as text
 use Rattle.text.specs.declared.Hex.the-variants.{Bytes, Bad, Odd}
-use Rattle.text.specs.declared.Number as number
-use Rattle.text.specs.declared.Number.the-variants.{Is, Not}
 use Rattle.names.specs.Names.{className}
 use Rattle.names.specs.declared.Name as names
 use Rattle.c_text.specs.declared.Hex.{Hex}

@@ -1,7 +1,8 @@
 // What C calls: hex text and numbers in text, and names for a person.
 ghost use mathlib.Core.Path.{_≡_};
-ghost use Rattle.text.specs.Hex.{firstBad, hexOf, read, shown, showing};
-ghost use Rattle.text.specs.Number.{numberOf};
+ghost use Rattle.digits.specs.Digit.{firstBad};
+ghost use Rattle.digits.specs.Number.{numberOf};
+ghost use Rattle.text.specs.Hex.{hexOf, read, shown, showing};
 ghost use Rattle.names.specs.Names.{attributeName, codeName, numberName, methodName};
 ghost use Rattle.c_text.specs.Said.{spelled, meant, told, classTold};
 use wire::method::Method;
@@ -30,7 +31,7 @@ pub struct Name {
 pub extern "C" fn cratehoist_first_bad(text: &[u8]) -> usize
     ensures { λ r. ⌜ r ≡ firstBad (now (text .entry)) ⌝ }
 {
-    text::first_bad(text)
+    digits::first_bad(text)
 }
 
 #[no_mangle]
@@ -56,10 +57,10 @@ pub extern "C" fn cratehoist_show(bytes: &[u8], buffer: &mut [u8]) -> usize
 pub extern "C" fn cratehoist_number_of(text: &[u8]) -> Number
     ensures { λ r. ⌜ r ≡ meant (numberOf (now (text .entry))) ⌝ }
 {
-    let n = text::number_of(text);
+    let n = digits::number_of(text);
     match n {
-        text::Number::Is(value) => Number { there: true, value },
-        text::Number::Not => Number {
+        digits::Number::Is(value) => Number { there: true, value },
+        digits::Number::Not => Number {
             there: false,
             value: 0,
         },

@@ -29,10 +29,10 @@ use crate::wants::TYPES;
 use crate::wants::VALUE;
 use addresses::AddressKind;
 use begin::Written;
+use digits::Number;
 use net::Family;
 use net::SocketAddr;
 use text::Hex;
-use text::Number;
 use wire::method::Method;
 use wire::transaction_id::TransactionId;
 
@@ -93,7 +93,7 @@ fn number_of(t: &[u8], wanted: usize, before: u64, bytes: &mut [u8; LONGEST]) ->
         PADDING => bytes_at(t, bytes, before),
         ID | VALUE | IP | BYTES => bytes_at(t, bytes, 0),
         TYPES => size_of(types_of(t, bytes)),
-        _ => text::number_of(t),
+        _ => digits::number_of(t),
     }
 }
 

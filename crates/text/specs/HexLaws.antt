@@ -9,7 +9,8 @@ use lib.ListN.{length, getD}
 use borrow.Author.Tests.{lt-ltb, le-ltb, ltb-true, ltb-false}
 use Rattle.base.specs.Choice.{pick}
 use Rattle.base.specs.Bytes.{Bytes}
-use Rattle.text.specs.Hex.{digitOf, glyphOf, firstBad, spelt, digits}
+use Rattle.digits.specs.Digit.{digitOf, firstBad}
+use Rattle.text.specs.Hex.{glyphOf, spelt, digits}
 
 pub length-spelt : (s : List ℕ) → length (spelt s) ≡ length s / 2
 unfolding spelt

@@ -1,7 +1,7 @@
-use Rattle.text.proofs.Values.{empty, short, no-nought, no-mark, marked}
+use Rattle.digits.proofs.Values.{empty, short, no-nought, no-mark, marked}
 use borrow.Author.Needs.{needs}
-use Rattle.text.proofs.number_of.Statement.{statement}
-use Rattle.text.proofs.number_of.Tie as tie
+use Rattle.digits.proofs.number_of.Statement.{statement}
+use Rattle.digits.proofs.number_of.Tie as tie
 
 returns : tie.Need-returns
 returns c = search (empty)

@@ -1,7 +1,7 @@
-use Rattle.text.proofs.Digits.{none-1, figure, none-2, upper, none-3, lower, none-4}
+use Rattle.digits.specs.DigitLaws.{none-1, figure, none-2, upper, none-3, lower, none-4}
 use borrow.Author.Needs.{needs}
-use Rattle.text.proofs.digit.Statement.{statement}
-use Rattle.text.proofs.digit.Tie as tie
+use Rattle.digits.proofs.digit.Statement.{statement}
+use Rattle.digits.proofs.digit.Tie as tie
 
 returns : tie.Need-returns
 returns c = search (none-1)

@@ -1,10 +1,10 @@
 use native.Mathlib.Omega.{arith}
 use Prim.Native.Nat.{_-_}
 use lib.ListN.{length}
-use Rattle.text.proofs.Values.{Valuing, start, turn, done, no-digit, too-large, product}
+use Rattle.digits.proofs.Values.{Valuing, start, turn, done, no-digit, too-large, product}
 use borrow.Author.Needs.{needs}
-use Rattle.text.proofs.value_in.Statement.{statement}
-use Rattle.text.proofs.value_in.Tie as tie
+use Rattle.digits.proofs.value_in.Statement.{statement}
+use Rattle.digits.proofs.value_in.Tie as tie
 
 abbrev Inv-loop : tie.InvT-loop
 Inv-loop s from base n₀ i₀ n i = Valuing base s from n i

@@ -10,10 +10,10 @@ use lib.ListN.{length, getD, drop, drop-of-length-le}
 use lib.Seq.{drop-cons}
 use borrow.Author.Tests.{lt-ltb, le-ltb, eq-eqb, ne-eqb}
 use Rattle.base.specs.Choice.{pick}
-use Rattle.text.specs.Hex.{digitOf}
-use Rattle.text.specs.Number.{valueFrom, numberOf}
-use Rattle.text.specs.declared.Number.{Number}
-use Rattle.text.specs.declared.Number.the-variants.{Is, Not}
+use Rattle.digits.specs.Digit.{digitOf}
+use Rattle.digits.specs.Number.{valueFrom, numberOf}
+use Rattle.digits.specs.declared.Number.{Number}
+use Rattle.digits.specs.declared.Number.the-variants.{Is, Not}
 
 pub record Valuing (base : ℕ) (s : List ℕ) (from n i : ℕ) : Type 0 where
   pub small : n < 4294967296

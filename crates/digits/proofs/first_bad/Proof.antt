@@ -1,9 +1,9 @@
 use Prim.Native.Nat.{_-_}
 use lib.ListN.{length}
-use Rattle.text.proofs.Places.{Passed, start, turn, stop, done}
+use Rattle.digits.proofs.Places.{Passed, start, turn, stop, done}
 use borrow.Author.Needs.{needs}
-use Rattle.text.proofs.first_bad.Statement.{statement}
-use Rattle.text.proofs.first_bad.Tie as tie
+use Rattle.digits.proofs.first_bad.Statement.{statement}
+use Rattle.digits.proofs.first_bad.Tie as tie
 
 abbrev Inv-loop : tie.InvT-loop
 Inv-loop s i₀ i = Passed s i

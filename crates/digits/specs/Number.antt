@@ -4,9 +4,9 @@ use mathlib.Core.List.{List, [], _∷_}
 use lib.Dec.{ltb, eqb}
 use lib.ListN.{length, getD, drop}
 use Rattle.base.specs.Choice.{pick}
-use Rattle.text.specs.Hex.{digitOf}
-use Rattle.text.specs.declared.Number.{Number}
-use Rattle.text.specs.declared.Number.the-variants.{Is, Not}
+use Rattle.digits.specs.Digit.{digitOf}
+use Rattle.digits.specs.declared.Number.{Number}
+use Rattle.digits.specs.declared.Number.the-variants.{Is, Not}
 
 -- the number that n goes on to with the digits of a text
 unfoldable pub valueFrom : ℕ → ℕ → List ℕ → Number
