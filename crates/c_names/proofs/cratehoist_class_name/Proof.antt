@@ -1,7 +1,7 @@
-use Rattle.c_text.proofs.Sayings.{no-class, class}
+use Rattle.c_names.proofs.Sayings.{no-class, class}
 use borrow.Author.Needs.{needs}
-use Rattle.c_text.proofs.cratehoist_class_name.Statement.{statement}
-use Rattle.c_text.proofs.cratehoist_class_name.Tie as tie
+use Rattle.c_names.proofs.cratehoist_class_name.Statement.{statement}
+use Rattle.c_names.proofs.cratehoist_class_name.Tie as tie
 
 returns : tie.Need-returns
 returns c = search (no-class)
