@@ -1,6 +1,5 @@
 -- Hex text: two digits a byte, the higher first (RFC 4648 section 8; either case is read, lower case is written).
 use Prim.Native.Nat.{ℕ, _+_, _*_, _/_, _%_}
-use mathlib.Core.Bool.{Bool}
 use mathlib.Core.List.{List, [], _∷_}
 use lib.Dec.{ltb, eqb}
 use lib.ListN.{length, take}

@@ -1,5 +1,4 @@
 use Rattle.error_codes.proofs.Values.{too-low, too-high, in-range}
-use borrow.Author.Needs.{needs}
 use Rattle.error_codes.proofs.outside.Statement.{statement}
 use Rattle.error_codes.proofs.outside.Tie as tie
 
