@@ -6,10 +6,8 @@ use Rattle.base.specs.Determined.{Determines, by}
 use Rattle.rfc5389.specs.Rows.{rfc5389}
 use Rattle.append.specs.Append.{answer, appended}
 use Rattle.append_typed.specs.Typed.{typed, refusal}
-use Rattle.append_fields.specs.Fields.{codeValue, codeRefusal}
 use Rattle.c_write.specs.Said.{told}
-use Rattle.c_append.specs.Said.{textFault, ofAddress}
-use Rattle.c_wire.specs.declared.Address.{Address}
+use Rattle.c_append.specs.Said.{textFault}
 use Rattle.c_write.specs.declared.Written.{Written}
 use Rattle.c_append.proofs.cratehoist_refusal.Kinds as refusal-kinds
 use Rattle.c_append.proofs.cratehoist_refusal.Reads as refusal-reads
@@ -19,10 +17,6 @@ use Rattle.c_append.proofs.cratehoist_append_text.Kinds as append-text-
 use Rattle.c_append.proofs.cratehoist_append_text.Reads as append-text-reads
 use Rattle.c_append.proofs.cratehoist_append_unknown_attributes.Kinds as append-unknown-attributes-kinds
 use Rattle.c_append.proofs.cratehoist_append_unknown_attributes.Reads as append-unknown-attributes-reads
-use Rattle.c_append.proofs.cratehoist_append_address.Kinds as append-address-kinds
-use Rattle.c_append.proofs.cratehoist_append_address.Reads as append-address-reads
-use Rattle.c_append.proofs.cratehoist_append_error_code.Kinds as append-error-code-kinds
-use Rattle.c_append.proofs.cratehoist_append_error_code.Reads as append-error-code-reads
 
 pub determined-refusal : Determines refusal-kinds.ps refusal-kinds.r {I = ℕ × List ℕ} {A = ℕ} refusal-reads.Asked refusal-reads.Learnt
     (λ κs a. (a .0, a .1 .0 .now)) (λ κs z e. z)
@@ -50,18 +44,4 @@ pub determined-append-unknown-attributes : Determines append-unknown-attributes-
 determined-append-unknown-attributes =
     by append-unknown-attributes-kinds.ps append-unknown-attributes-kinds.r append-unknown-attributes-reads.Asked append-unknown-attributes-reads.Learnt _ _
     (λ x. (told (answer (x .0) (refusal rfc5389 0x000A (x .1)) (typed 0x000A (x .1))), appended (x .0) (refusal rfc5389 0x000A (x .1)) (typed 0x000A (x .1))))
-    (λ κs a y d i q. ap₂ (λ (u : Written) (v : List ℕ). (u, v)) (q .0) (q .1))
-
-pub determined-append-address : Determines append-address-kinds.ps append-address-kinds.r {I = List ℕ × ℕ × Address} {A = Written × List ℕ} append-address-reads.Asked append-address-reads.Learnt
-    (λ κs a. (a .0 .now, a .1 .0, a .1 .1 .0)) (λ κs z e. (z, e .0 .now))
-determined-append-address =
-    by append-address-kinds.ps append-address-kinds.r append-address-reads.Asked append-address-reads.Learnt _ _
-    (λ x. (told (answer (x .0) (ofAddress (x .0) (x .1) (x .2) .0) (ofAddress (x .0) (x .1) (x .2) .1)), appended (x .0) (ofAddress (x .0) (x .1) (x .2) .0) (ofAddress (x .0) (x .1) (x .2) .1)))
-    (λ κs a y d i q. ap₂ (λ (u : Written) (v : List ℕ). (u, v)) (q .0) (q .1))
-
-pub determined-append-error-code : Determines append-error-code-kinds.ps append-error-code-kinds.r {I = List ℕ × ℕ × List ℕ} {A = Written × List ℕ} append-error-code-reads.Asked append-error-code-reads.Learnt
-    (λ κs a. (a .0 .now, a .1 .0, a .1 .1 .0 .now)) (λ κs z e. (z, e .0 .now))
-determined-append-error-code =
-    by append-error-code-kinds.ps append-error-code-kinds.r append-error-code-reads.Asked append-error-code-reads.Learnt _ _
-    (λ x. (told (answer (x .0) (codeRefusal rfc5389 (x .1) (x .2)) (typed 0x0009 (codeValue (x .1) (x .2)))), appended (x .0) (codeRefusal rfc5389 (x .1) (x .2)) (typed 0x0009 (codeValue (x .1) (x .2)))))
     (λ κs a y d i q. ap₂ (λ (u : Written) (v : List ℕ). (u, v)) (q .0) (q .1))

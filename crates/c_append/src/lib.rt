@@ -1,19 +1,13 @@
-// What C calls: typed appends. A kind is the attribute's type; one that the call has no form for is refused by 23, behind 21.
+// What C calls: typed appends of bytes. A kind is the attribute's type; one that the call has no form for is refused by 23, behind 21.
 ghost use mathlib.Core.Path.{_≡_};
 ghost use Rattle.rfc5389.specs.Rows.{rfc5389};
 ghost use Rattle.append.specs.Append.{answer, appended};
 ghost use Rattle.append_typed.specs.Typed.{typed, refusal};
-ghost use Rattle.append_fields.specs.Fields.{codeValue, codeRefusal};
 ghost use Rattle.c_write.specs.Said.{told};
-ghost use Rattle.c_append.specs.Said.{textFault, ofKind, ofAddress};
-use append_fields::AddressKind;
-use append_fields::append_address;
+ghost use Rattle.c_append.specs.Said.{textFault};
 use append_typed::append_value;
-use c_wire::Address;
 use c_write::Written;
 use c_write::in_numbers;
-use net::Family;
-use net::SocketAddr;
 use rfc5389::Rule;
 
 #[no_mangle]
@@ -65,66 +59,4 @@ pub extern "C" fn cratehoist_append_unknown_attributes(buffer: &mut [u8], types:
         × (now (buffer .exit) ≡ appended (now (buffer .entry)) (refusal rfc5389 0x000A (now (types .entry))) (typed 0x000A (now (types .entry)))) ⌝ }
 {
     in_numbers(append_typed::append_unknown_attributes(buffer, types))
-}
-
-// An address of a family that there is.
-fn append_kind(buf: &mut [u8], kind: u16, addr: SocketAddr) -> begin::Written
-    ensures { λ r. ⌜ (r ≡ answer (now (buf .entry)) (ofKind (now (buf .entry)) kind addr .0) (ofKind (now (buf .entry)) kind addr .1))
-        × (now (buf .exit) ≡ appended (now (buf .entry)) (ofKind (now (buf .entry)) kind addr .0) (ofKind (now (buf .entry)) kind addr .1)) ⌝ }
-{
-    match kind {
-        0x0001 => append_address(buf, AddressKind::MappedAddress, addr),
-        0x0020 => append_address(buf, AddressKind::XorMappedAddress, addr),
-        0x8023 => append_address(buf, AddressKind::AlternateServer, addr),
-        _ => append_value(buf, 23, kind, b""),
-    }
-}
-
-#[no_mangle]
-pub extern "C" fn cratehoist_append_address(
-    buffer: &mut [u8],
-    kind: u16,
-    address: Address,
-) -> Written
-    ensures { λ r. ⌜ (r ≡ told (answer (now (buffer .entry)) (ofAddress (now (buffer .entry)) kind address .0) (ofAddress (now (buffer .entry)) kind address .1)))
-        × (now (buffer .exit) ≡ appended (now (buffer .entry)) (ofAddress (now (buffer .entry)) kind address .0) (ofAddress (now (buffer .entry)) kind address .1)) ⌝ }
-{
-    let family = address.family;
-    let port = address.port;
-    let ip = address.ip;
-    if family == 1 {
-        return in_numbers(append_kind(
-            buffer,
-            kind,
-            SocketAddr {
-                family: Family::Ipv4,
-                port: port,
-                ip: ip,
-            },
-        ));
-    }
-    if family == 2 {
-        return in_numbers(append_kind(
-            buffer,
-            kind,
-            SocketAddr {
-                family: Family::Ipv6,
-                port: port,
-                ip: ip,
-            },
-        ));
-    }
-    in_numbers(append_value(buffer, 23, kind, b""))
-}
-
-#[no_mangle]
-pub extern "C" fn cratehoist_append_error_code(
-    buffer: &mut [u8],
-    code: u16,
-    phrase: &[u8],
-) -> Written
-    ensures { λ r. ⌜ (r ≡ told (answer (now (buffer .entry)) (codeRefusal rfc5389 code (now (phrase .entry))) (typed 0x0009 (codeValue code (now (phrase .entry))))))
-        × (now (buffer .exit) ≡ appended (now (buffer .entry)) (codeRefusal rfc5389 code (now (phrase .entry))) (typed 0x0009 (codeValue code (now (phrase .entry))))) ⌝ }
-{
-    in_numbers(append_fields::append_error_code(buffer, code, phrase))
 }

@@ -3,12 +3,11 @@ use Prim.Native.Nat.{ℕ}
 use mathlib.Core.List.{List}
 use mathlib.Core.Path.{ap₂}
 use Rattle.base.specs.Determined.{Determines, by}
-use Rattle.text.specs.Hex.{firstBad, hexOf, read, shown, showing}
-use Rattle.text.specs.Number.{numberOf}
-use Rattle.names.specs.Names.{attributeName, codeName, numberName, methodName}
-use Rattle.c_text.specs.Said.{spelled, meant, told, classTold}
+use Rattle.digits.specs.Digit.{firstBad}
+use Rattle.digits.specs.Number.{numberOf}
+use Rattle.text.specs.Hex.{hexOf, read, shown, showing}
+use Rattle.c_text.specs.Said.{spelled, meant}
 use Rattle.c_text.specs.declared.Hex.{Hex}
-use Rattle.c_text.specs.declared.Name.{Name}
 use Rattle.c_text.specs.declared.Number.{Number}
 use Rattle.c_text.proofs.cratehoist_first_bad.Kinds as first-bad-kinds
 use Rattle.c_text.proofs.cratehoist_first_bad.Reads as first-bad-reads
@@ -18,16 +17,6 @@ use Rattle.c_text.proofs.cratehoist_show.Kinds as show-kinds
 use Rattle.c_text.proofs.cratehoist_show.Reads as show-reads
 use Rattle.c_text.proofs.cratehoist_number_of.Kinds as number-of-kinds
 use Rattle.c_text.proofs.cratehoist_number_of.Reads as number-of-reads
-use Rattle.c_text.proofs.cratehoist_attribute_name.Kinds as attribute-name-kinds
-use Rattle.c_text.proofs.cratehoist_attribute_name.Reads as attribute-name-reads
-use Rattle.c_text.proofs.cratehoist_code_name.Kinds as code-name-kinds
-use Rattle.c_text.proofs.cratehoist_code_name.Reads as code-name-reads
-use Rattle.c_text.proofs.cratehoist_number_name.Kinds as number-name-kinds
-use Rattle.c_text.proofs.cratehoist_number_name.Reads as number-name-reads
-use Rattle.c_text.proofs.cratehoist_class_name.Kinds as class-name-kinds
-use Rattle.c_text.proofs.cratehoist_class_name.Reads as class-name-reads
-use Rattle.c_text.proofs.cratehoist_method_name.Kinds as method-name-kinds
-use Rattle.c_text.proofs.cratehoist_method_name.Reads as method-name-reads
 
 pub determined-first-bad : Determines first-bad-kinds.ps first-bad-kinds.r {I = List ℕ} {A = ℕ} first-bad-reads.Asked first-bad-reads.Learnt
     (λ κs a. a .0 .now) (λ κs z e. z)
@@ -55,39 +44,4 @@ pub determined-number-of : Determines number-of-kinds.ps number-of-kinds.r {I = 
 determined-number-of =
     by number-of-kinds.ps number-of-kinds.r number-of-reads.Asked number-of-reads.Learnt _ _
     (λ x. meant (numberOf x))
-    (λ κs a y d i q. q)
-
-pub determined-attribute-name : Determines attribute-name-kinds.ps attribute-name-kinds.r {I = ℕ} {A = Name} attribute-name-reads.Asked attribute-name-reads.Learnt
-    (λ κs a. a .0) (λ κs z e. z)
-determined-attribute-name =
-    by attribute-name-kinds.ps attribute-name-kinds.r attribute-name-reads.Asked attribute-name-reads.Learnt _ _
-    (λ x. told (attributeName x))
-    (λ κs a y d i q. q)
-
-pub determined-code-name : Determines code-name-kinds.ps code-name-kinds.r {I = ℕ} {A = Name} code-name-reads.Asked code-name-reads.Learnt
-    (λ κs a. a .0) (λ κs z e. z)
-determined-code-name =
-    by code-name-kinds.ps code-name-kinds.r code-name-reads.Asked code-name-reads.Learnt _ _
-    (λ x. told (codeName x))
-    (λ κs a y d i q. q)
-
-pub determined-number-name : Determines number-name-kinds.ps number-name-kinds.r {I = ℕ} {A = Name} number-name-reads.Asked number-name-reads.Learnt
-    (λ κs a. a .0) (λ κs z e. z)
-determined-number-name =
-    by number-name-kinds.ps number-name-kinds.r number-name-reads.Asked number-name-reads.Learnt _ _
-    (λ x. told (numberName x))
-    (λ κs a y d i q. q)
-
-pub determined-class-name : Determines class-name-kinds.ps class-name-kinds.r {I = ℕ} {A = Name} class-name-reads.Asked class-name-reads.Learnt
-    (λ κs a. a .0) (λ κs z e. z)
-determined-class-name =
-    by class-name-kinds.ps class-name-kinds.r class-name-reads.Asked class-name-reads.Learnt _ _
-    (λ x. classTold x)
-    (λ κs a y d i q. q)
-
-pub determined-method-name : Determines method-name-kinds.ps method-name-kinds.r {I = ℕ} {A = Name} method-name-reads.Asked method-name-reads.Learnt
-    (λ κs a. a .0) (λ κs z e. z)
-determined-method-name =
-    by method-name-kinds.ps method-name-kinds.r method-name-reads.Asked method-name-reads.Learnt _ _
-    (λ x. told (methodName x))
     (λ κs a y d i q. q)

@@ -1,10 +1,9 @@
-// What C calls: hex text and numbers in text, and names for a person.
+// What C calls: hex text and numbers in text.
 ghost use mathlib.Core.Path.{_≡_};
-ghost use Rattle.text.specs.Hex.{firstBad, hexOf, read, shown, showing};
-ghost use Rattle.text.specs.Number.{numberOf};
-ghost use Rattle.names.specs.Names.{attributeName, codeName, numberName, methodName};
-ghost use Rattle.c_text.specs.Said.{spelled, meant, told, classTold};
-use wire::method::Method;
+ghost use Rattle.digits.specs.Digit.{firstBad};
+ghost use Rattle.digits.specs.Number.{numberOf};
+ghost use Rattle.text.specs.Hex.{hexOf, read, shown, showing};
+ghost use Rattle.c_text.specs.Said.{spelled, meant};
 
 // `what` is 0 for that many bytes, 1 for the place of the first bad character, 2 for a digit that is left over.
 #[repr(C)]
@@ -19,18 +18,11 @@ pub struct Number {
     pub value: u64,
 }
 
-// The first `size` bytes of the text; empty where there is no name.
-#[repr(C)]
-pub struct Name {
-    pub text: [u8; 32],
-    pub size: usize,
-}
-
 #[no_mangle]
 pub extern "C" fn cratehoist_first_bad(text: &[u8]) -> usize
     ensures { λ r. ⌜ r ≡ firstBad (now (text .entry)) ⌝ }
 {
-    text::first_bad(text)
+    digits::first_bad(text)
 }
 
 #[no_mangle]
@@ -56,64 +48,12 @@ pub extern "C" fn cratehoist_show(bytes: &[u8], buffer: &mut [u8]) -> usize
 pub extern "C" fn cratehoist_number_of(text: &[u8]) -> Number
     ensures { λ r. ⌜ r ≡ meant (numberOf (now (text .entry))) ⌝ }
 {
-    let n = text::number_of(text);
+    let n = digits::number_of(text);
     match n {
-        text::Number::Is(value) => Number { there: true, value },
-        text::Number::Not => Number {
+        digits::Number::Is(value) => Number { there: true, value },
+        digits::Number::Not => Number {
             there: false,
             value: 0,
         },
     }
-}
-
-fn name_said(n: names::Name) -> Name
-    ensures { λ r. ⌜ r ≡ told n ⌝ }
-{
-    let text = n.text;
-    Name {
-        text: text,
-        size: n.size,
-    }
-}
-
-#[no_mangle]
-pub extern "C" fn cratehoist_attribute_name(kind: u16) -> Name
-    ensures { λ r. ⌜ r ≡ told (attributeName kind) ⌝ }
-{
-    name_said(names::attribute(kind))
-}
-
-#[no_mangle]
-pub extern "C" fn cratehoist_code_name(code: u16) -> Name
-    ensures { λ r. ⌜ r ≡ told (codeName code) ⌝ }
-{
-    name_said(names::code(code))
-}
-
-#[no_mangle]
-pub extern "C" fn cratehoist_number_name(number: u8) -> Name
-    ensures { λ r. ⌜ r ≡ told (numberName number) ⌝ }
-{
-    name_said(names::number(number))
-}
-
-// A class above 3 has no name.
-#[no_mangle]
-pub extern "C" fn cratehoist_class_name(message_class: u16) -> Name
-    ensures { λ r. ⌜ r ≡ classTold «message_class» ⌝ }
-{
-    if 3 < message_class {
-        return Name {
-            text: [0u8; 32],
-            size: 0,
-        };
-    }
-    name_said(names::class(c_wire::class_numbered(message_class)))
-}
-
-#[no_mangle]
-pub extern "C" fn cratehoist_method_name(method: u16) -> Name
-    ensures { λ r. ⌜ r ≡ told (methodName method) ⌝ }
-{
-    name_said(names::method(Method { code: method }))
 }

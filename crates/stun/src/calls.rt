@@ -27,12 +27,12 @@ use crate::wants::TEXT_TYPE;
 use crate::wants::TYPE;
 use crate::wants::TYPES;
 use crate::wants::VALUE;
-use append_fields::AddressKind;
+use addresses::AddressKind;
 use begin::Written;
+use digits::Number;
 use net::Family;
 use net::SocketAddr;
 use text::Hex;
-use text::Number;
 use wire::method::Method;
 use wire::transaction_id::TransactionId;
 
@@ -93,7 +93,7 @@ fn number_of(t: &[u8], wanted: usize, before: u64, bytes: &mut [u8; LONGEST]) ->
         PADDING => bytes_at(t, bytes, before),
         ID | VALUE | IP | BYTES => bytes_at(t, bytes, 0),
         TYPES => size_of(types_of(t, bytes)),
-        _ => text::number_of(t),
+        _ => digits::number_of(t),
     }
 }
 
@@ -202,11 +202,11 @@ fn socket_addr(family: Family, port: u16, ip: &[u8]) -> SocketAddr {
 fn addressed(kind: AddressKind, family: u64, port: u16, ip: &[u8], message: &mut [u8]) -> Written {
     if is_pair(Family::Ipv4, family, ip) {
         let a = socket_addr(Family::Ipv4, port, ip);
-        return append_fields::append_address(message, kind, a);
+        return addresses::append_address(message, kind, a);
     }
     if is_pair(Family::Ipv6, family, ip) {
         let a = socket_addr(Family::Ipv6, port, ip);
-        return append_fields::append_address(message, kind, a);
+        return addresses::append_address(message, kind, a);
     }
     append_typed::append_value(message, 23, kind.as_u16(), b"")
 }
@@ -221,7 +221,7 @@ fn address(t: Taken, bytes: &[u8], message: &mut [u8]) -> Written {
 fn added(call: usize, first: u64, last: &[u8], message: &mut [u8]) -> Written {
     match call {
         7 => append_typed::append_text(message, text_of(first), last),
-        8 => append_fields::append_error_code(message, low(first), last),
+        8 => error_codes::append_error_code(message, low(first), last),
         9 => append_typed::append_unknown_attributes(message, last),
         10 => seal::append_message_integrity(message, last),
         _ => seal::append_fingerprint(message),

@@ -4,8 +4,8 @@ use crate::answers::plus;
 use crate::feed::find;
 use crate::input::is_blank;
 use check::same;
+use digits::Number;
 use text::Hex;
-use text::Number;
 
 // Passes by blanks, or by what is no blank; answers the place where that ends.
 fn pass(s: &[u8], from: usize, blanks: bool) -> usize {
@@ -75,7 +75,7 @@ pub fn bytes_of(t: &[u8], out: &mut [u8]) -> Hex {
 
 // Puts a type's two bytes at a place; false where the text is no type or there is no room.
 fn put_type(t: &[u8], out: &mut [u8], at: usize) -> bool {
-    let Number::Is(n) = text::number_of(t) else {
+    let Number::Is(n) = digits::number_of(t) else {
         return false;
     };
     if 65535 < n {

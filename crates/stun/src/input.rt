@@ -109,7 +109,7 @@ fn character(b: u8, g: Reached, raw: &mut [u8]) -> Reached {
         return passed(b, g);
     }
     let one = [b];
-    if text::first_bad(&one) == 1 {
+    if digits::first_bad(&one) == 1 {
         return digit(b, g, raw);
     }
     passed(b, g)

@@ -1,5 +1,5 @@
 // The library's classes and kinds by their numbers. What is no such number is taken for the last, whose number is another then.
-use append_fields::AddressKind;
+use addresses::AddressKind;
 use append_typed::TextKind;
 use wire::types::MessageClass;
 

@@ -89,7 +89,7 @@ fn one(s: &[u8], line: u64, job: Job, key: &[u8], raw: &mut [u8; MOST], buf: &mu
 fn more(c: State, s: &[u8]) -> State {
     let mut c = c;
     if c.bad == 0 {
-        let b = text::first_bad(s);
+        let b = digits::first_bad(s);
         if b < s.len() {
             c.bad = plus(plus(c.seen, b as u64), 1);
             c.cr = s[b] == 13;

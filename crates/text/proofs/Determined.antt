@@ -1,24 +1,14 @@
 -- The contract of each public call determines its answer and each byte of a lent buffer.
 use Prim.Native.Nat.{ℕ}
 use mathlib.Core.List.{List}
-use mathlib.Core.Path.{_≡_, ap₂}
+use mathlib.Core.Path.{ap₂}
 use Rattle.base.specs.Determined.{Determines, by}
-use Rattle.text.specs.Hex.{firstBad, hexOf, read, shown, showing}
-use Rattle.text.specs.Number.{numberOf}
+use Rattle.text.specs.Hex.{hexOf, read, shown, showing}
 use Rattle.text.specs.declared.Hex.{Hex}
-use Rattle.text.specs.declared.Number.{Number}
-use Rattle.text.proofs.first_bad.Kinds as first-bad
-use Rattle.text.proofs.first_bad.Reads as first-bad-reads
 use Rattle.text.proofs.unhex.Kinds as unhex
 use Rattle.text.proofs.unhex.Reads as unhex-reads
 use Rattle.text.proofs.show.Kinds as show
 use Rattle.text.proofs.show.Reads as show-reads
-use Rattle.text.proofs.number_of.Kinds as number-of
-use Rattle.text.proofs.number_of.Reads as number-of-reads
-
-pub determined-first-bad : Determines first-bad.ps first-bad.r {I = List ℕ} {A = ℕ} first-bad-reads.Asked first-bad-reads.Learnt
-    (λ κs a. a .0 .now) (λ κs z e. z)
-determined-first-bad = by first-bad.ps first-bad.r first-bad-reads.Asked first-bad-reads.Learnt _ _ firstBad (λ κs a y d i q. q)
 
 pub determined-unhex : Determines unhex.ps unhex.r {I = List ℕ × List ℕ} {A = Hex × List ℕ} unhex-reads.Asked unhex-reads.Learnt
     (λ κs a. (a .0 .now, a .1 .0 .now)) (λ κs z e. (z, e .1 .0 .now))
@@ -33,7 +23,3 @@ determined-show =
     by show.ps show.r show-reads.Asked show-reads.Learnt _ _
     (λ x. (shown (x .1) (x .0), showing (x .1) (x .0)))
     (λ κs a y d i q. ap₂ (λ (n : ℕ) (l : List ℕ). (n, l)) (q .0) (q .1))
-
-pub determined-number-of : Determines number-of.ps number-of.r {I = List ℕ} {A = Number} number-of-reads.Asked number-of-reads.Learnt
-    (λ κs a. a .0 .now) (λ κs z e. z)
-determined-number-of = by number-of.ps number-of.r number-of-reads.Asked number-of-reads.Learnt _ _ numberOf (λ κs a y d i q. q)

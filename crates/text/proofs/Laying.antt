@@ -1,13 +1,14 @@
 -- The loops of `spell` and `show`: what i turns have laid into the buffer.
-use Prim.Native.Nat.{ℕ, suc, _+_, _*_, _/_, _%_, _≤_, _<_, min}
+use Prim.Native.Nat.{ℕ, _+_, _*_, _/_, _%_, _≤_, _<_, min}
 use mathlib.Core.List.{List}
-use mathlib.Core.Path.{_≡_, refl, sym, ap, _∙_, subst}
+use mathlib.Core.Path.{_≡_, refl, sym, ap, _∙_}
 use native.Mathlib.Omega.{arith}
 use native.Mathlib.Nat.{min-le-left, min-le-right, min-comm}
 use lib.ListN.{length, getD, set, take, length-take}
 use lib.Seq.{getD-take}
-use Rattle.base.specs.Laid.{laid, Laying, laying-start, laying-turn, laying-done}
-use Rattle.text.specs.Hex.{digitOf, glyphOf, firstBad, spelt, digits, unhexed, shown, showing}
+use Rattle.base.specs.Laid.{Laying, laying-start, laying-turn, laying-done}
+use Rattle.digits.specs.Digit.{digitOf, firstBad}
+use Rattle.text.specs.Hex.{glyphOf, spelt, digits, unhexed, shown, showing}
 use Rattle.text.specs.HexLaws.{length-spelt, spelt-at, length-digits, high-at, low-at}
 use Rattle.text.proofs.Places.{each}
 

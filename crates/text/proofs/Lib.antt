@@ -1,5 +1,4 @@
 mod Digits
 mod Places
 mod Laying
-mod Values
 mod Determined

@@ -1,32 +1,17 @@
 -- Hex text: two digits a byte, the higher first (RFC 4648 section 8; either case is read, lower case is written).
-use Prim.Native.Nat.{ℕ, suc, _+_, _*_, _-_, _/_, _%_}
-use mathlib.Core.Bool.{Bool}
+use Prim.Native.Nat.{ℕ, _+_, _*_, _/_, _%_}
 use mathlib.Core.List.{List, [], _∷_}
 use lib.Dec.{ltb, eqb}
 use lib.ListN.{length, take}
 use Rattle.base.specs.Choice.{pick}
 use Rattle.base.specs.Laid.{laid}
+use Rattle.digits.specs.Digit.{digitOf, firstBad}
 use Rattle.text.specs.declared.Hex.{Hex}
 use Rattle.text.specs.declared.Hex.the-variants.{Bytes, Bad, Odd}
-
--- the value of a digit: 0 to 9 stand at 48, A to F at 65, a to f at 97; 16 for any other character
-unfoldable pub digitOf : ℕ → ℕ
-digitOf b =
-    pick (ltb b 48) 16
-    (pick (ltb b 58) (b - 48)
-    (pick (ltb b 65) 16
-    (pick (ltb b 71) (b - 55)
-    (pick (ltb b 97) 16
-    (pick (ltb b 103) (b - 87) 16)))))
 
 -- the digit of a value below 16, in lower case
 unfoldable pub glyphOf : ℕ → ℕ
 glyphOf d = pick (ltb d 10) (48 + d) (87 + d)
-
--- the place of the first character that is no digit; the length where all are
-unfoldable pub firstBad : List ℕ → ℕ
-firstBad [] = 0
-firstBad (b ∷ s) = pick (ltb (digitOf b) 16) (suc (firstBad s)) 0
 
 -- the bytes that pairs of digits spell
 unfoldable pub spelt : List ℕ → List ℕ

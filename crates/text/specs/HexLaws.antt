@@ -1,15 +1,16 @@
 -- Laws of hex text: sizes, what stands where, and digits that are read back.
-use Prim.Native.Nat.{ℕ, zero, suc, _+_, _*_, _-_, _/_, _%_, _≤_, _<_}
+use Prim.Native.Nat.{ℕ, zero, suc, _+_, _*_, _/_, _%_, _≤_, _<_}
 use mathlib.Core.Bool.{Bool, true, false}
 use mathlib.Core.List.{List, [], _∷_}
-use mathlib.Core.Path.{_≡_, refl, sym, ap, ap₂, _∙_}
+use mathlib.Core.Path.{_≡_, refl, ap, ap₂}
 use native.Mathlib.Omega.{arith}
 use lib.Dec.{ltb}
 use lib.ListN.{length, getD}
 use borrow.Author.Tests.{lt-ltb, le-ltb, ltb-true, ltb-false}
 use Rattle.base.specs.Choice.{pick}
 use Rattle.base.specs.Bytes.{Bytes}
-use Rattle.text.specs.Hex.{digitOf, glyphOf, firstBad, spelt, digits}
+use Rattle.digits.specs.Digit.{digitOf, firstBad}
+use Rattle.text.specs.Hex.{glyphOf, spelt, digits}
 
 pub length-spelt : (s : List ℕ) → length (spelt s) ≡ length s / 2
 unfolding spelt

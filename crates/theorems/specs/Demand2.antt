@@ -24,9 +24,10 @@ use Rattle.typed.specs.declared.Value.the-variants.{Code, Plain}
 use Rattle.append_typed.specs.Typed.{textNumber, refusal}
 use Rattle.append_typed.specs.declared.TextKind.{TextKind}
 use Rattle.append_typed.specs.declared.TextKind.the-variants.{Username, Realm, Nonce, Software}
-use Rattle.append_fields.specs.Fields.{addressNumber, given, addressValue, codeValue, codeRefusal}
-use Rattle.append_fields.specs.declared.AddressKind.{AddressKind}
-use Rattle.append_fields.specs.declared.AddressKind.the-variants.{MappedAddress, XorMappedAddress, AlternateServer}
+use Rattle.addresses.specs.Address.{addressNumber, given, addressValue}
+use Rattle.addresses.specs.declared.AddressKind.{AddressKind}
+use Rattle.addresses.specs.declared.AddressKind.the-variants.{MappedAddress, XorMappedAddress, AlternateServer}
+use Rattle.error_codes.specs.ErrorCode.{codeValue, codeRefusal}
 use Rattle.round_trip.specs.Message.{Message, bytesOf, messageOf, Shaped, write}
 use Rattle.round_trip.specs.Whole.{written-again, read-back}
 

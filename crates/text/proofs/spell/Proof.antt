@@ -1,5 +1,4 @@
 use Prim.Native.Nat.{_-_}
-use lib.ListN.{length}
 use Rattle.text.proofs.Laying.{Spelling, spell-start, spell-turn, spell-done, first-good, second-good}
 use borrow.Author.Needs.{needs}
 use Rattle.text.proofs.spell.Statement.{statement}

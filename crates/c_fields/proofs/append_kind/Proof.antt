@@ -1,0 +1,34 @@
+use Rattle.c_fields.proofs.Sayings.{answers, leaves, mapped, xor-mapped, alternate, no-kind}
+use borrow.Author.Needs.{needs}
+use Rattle.c_fields.proofs.append_kind.Statement.{statement}
+use Rattle.c_fields.proofs.append_kind.Tie as tie
+
+returns : tie.Need-returns
+returns c = (search (answers, mapped), search (leaves, mapped))
+
+returns-2 : tie.Need-returns-2
+returns-2 c = (search (answers, xor-mapped), search (leaves, xor-mapped))
+
+returns-3 : tie.Need-returns-3
+returns-3 c = (search (answers, alternate), search (leaves, alternate))
+
+returns-4 : tie.Need-returns-4
+returns-4 c = (search (answers, no-kind), search (leaves, no-kind))
+
+pub append-kind-spec : {M : Type 1} → statement M
+append-kind-spec =
+    tie.close
+    (tie.spec
+    (λ c κs. search needs)
+    (λ c κs. search needs)
+    (λ c κs. search needs)
+    (λ c. search needs)
+    (λ c κs. search needs)
+    (λ c. search needs)
+    returns
+    (λ c. search needs)
+    returns-2
+    (λ c. search needs)
+    returns-3
+    (λ c. search needs)
+    returns-4)

@@ -1,0 +1,11 @@
+use Rattle.base.specs.Through.{through}
+use Rattle.c_write.specs.Said.{told}
+use borrow.Author.Needs.{needs}
+use Rattle.c_fields.proofs.cratehoist_append_error_code.Statement.{statement}
+use Rattle.c_fields.proofs.cratehoist_append_error_code.Tie as tie
+
+returns : tie.Need-returns
+returns c = (search (through told), search needs)
+
+pub cratehoist-append-error-code-spec : {M : Type 1} → statement M
+cratehoist-append-error-code-spec = tie.close (tie.spec (λ c κs. search needs) (λ c κs. search needs) (λ c. search needs) returns)

@@ -1,0 +1,16 @@
+use Rattle.error_codes.proofs.Values.{judged-answer, judged-buffer}
+use borrow.Author.Needs.{needs}
+use Rattle.error_codes.proofs.append_code.Statement.{statement}
+use Rattle.error_codes.proofs.append_code.Tie as tie
+
+returns : tie.Need-returns
+returns c = (search (judged-answer), search (judged-buffer))
+
+pub append-code-spec : {M : Type 1} → statement M
+append-code-spec =
+    tie.close
+    (tie.spec
+    (λ c κs. search needs)
+    (λ c κs. search needs)
+    (λ c. search needs)
+    returns)
