@@ -1,31 +1,11 @@
--- What C is told of a header, a step of the walk and a reading: the library's answers in numbers, nought where there is nothing to tell.
+-- What C is told of a reading: the library's answer in numbers, nought where there is nothing to tell.
 use Prim.Native.Nat.{ℕ}
 use mathlib.Core.List.{List}
 use Rattle.wire.specs.TypeNumber.{classNumber}
-use Rattle.header.specs.declared.Head.{Head}
-use Rattle.header.specs.declared.Head.the-variants as head
-use Rattle.header.specs.declared.Header as header
-use Rattle.attribute.specs.declared.Walk.{Walk}
-use Rattle.attribute.specs.declared.Walk.the-variants.{Attribute, End, Cut}
 use Rattle.message.specs.declared.Answer.{Answer}
 use Rattle.message.specs.declared.Answer.the-variants.{Whole, Broken, Refused}
 use Rattle.message.specs.declared.Reading as message
-use Rattle.c_read.specs.declared.Header.{Header}
-use Rattle.c_read.specs.declared.Step.{Step}
 use Rattle.c_read.specs.declared.Reading.{Reading}
-
-unfoldable pub headedBy : Head → List ℕ → Header
-headedBy (head.Good c m b) id = record { number = 0; «message_class» = classNumber c; method = m .code; body = b; id = record { bytes = id } }
-headedBy (head.Refused n) id = record { number = n; «message_class» = 0; method = 0; body = 0; id = record { bytes = id } }
-
-unfoldable pub headed : header.Header → Header
-headed h = headedBy (h .head) (h .id .bytes)
-
--- 0 an attribute, 1 the end, 2 the cut
-unfoldable pub stepped : Walk → Step
-stepped (Attribute p k v n x) = record { what = 0; kind = k; place = p; value = v; size = n; next = x }
-stepped (End p) = record { what = 1; kind = 0; place = p; value = 0; size = 0; next = 0 }
-stepped (Cut p) = record { what = 2; kind = 0; place = p; value = 0; size = 0; next = 0 }
 
 -- 0 whole, 1 broken, 2 refused
 unfoldable pub saidBy : Answer → List ℕ → Reading

@@ -5,7 +5,6 @@ use mathlib.Core.Path.{ap₂}
 use Rattle.base.specs.Determined.{Determines, by}
 use Rattle.plan.specs.Plan.{planOf}
 use Rattle.append.specs.Append.{attr, answer, appended}
-use Rattle.seal.specs.Seal.{fingerprint, integrity}
 use Rattle.c_write.specs.Said.{told, begunBy, leftBy, planned}
 use Rattle.begin.specs.declared.Written as begin
 use Rattle.c_wire.specs.declared.Id.{Id}
@@ -21,10 +20,6 @@ use Rattle.c_write.proofs.cratehoist_append_unless.Kinds as append-unle
 use Rattle.c_write.proofs.cratehoist_append_unless.Reads as append-unless-reads
 use Rattle.c_write.proofs.cratehoist_append_raw.Kinds as append-raw-kinds
 use Rattle.c_write.proofs.cratehoist_append_raw.Reads as append-raw-reads
-use Rattle.c_write.proofs.cratehoist_append_fingerprint.Kinds as append-fingerprint-kinds
-use Rattle.c_write.proofs.cratehoist_append_fingerprint.Reads as append-fingerprint-reads
-use Rattle.c_write.proofs.cratehoist_append_message_integrity.Kinds as append-message-integrity-kinds
-use Rattle.c_write.proofs.cratehoist_append_message_integrity.Reads as append-message-integrity-reads
 
 pub determined-in-numbers : Determines in-numbers-kinds.ps in-numbers-kinds.r {I = begin.Written} {A = Written} in-numbers-reads.Asked in-numbers-reads.Learnt
     (λ κs a. a .0) (λ κs z e. z)
@@ -59,18 +54,4 @@ pub determined-append-raw : Determines append-raw-kinds.ps append-raw-kinds.r {I
 determined-append-raw =
     by append-raw-kinds.ps append-raw-kinds.r append-raw-reads.Asked append-raw-reads.Learnt _ _
     (λ x. (told (answer (x .0) 0 (attr (x .1) (x .2) (x .3))), appended (x .0) 0 (attr (x .1) (x .2) (x .3))))
-    (λ κs a y d i q. ap₂ (λ (u : Written) (v : List ℕ). (u, v)) (q .0) (q .1))
-
-pub determined-append-fingerprint : Determines append-fingerprint-kinds.ps append-fingerprint-kinds.r {I = List ℕ} {A = Written × List ℕ} append-fingerprint-reads.Asked append-fingerprint-reads.Learnt
-    (λ κs a. a .0 .now) (λ κs z e. (z, e .0 .now))
-determined-append-fingerprint =
-    by append-fingerprint-kinds.ps append-fingerprint-kinds.r append-fingerprint-reads.Asked append-fingerprint-reads.Learnt _ _
-    (λ x. (told (answer x 0 (fingerprint x)), appended x 0 (fingerprint x)))
-    (λ κs a y d i q. ap₂ (λ (u : Written) (v : List ℕ). (u, v)) (q .0) (q .1))
-
-pub determined-append-message-integrity : Determines append-message-integrity-kinds.ps append-message-integrity-kinds.r {I = List ℕ × List ℕ} {A = Written × List ℕ} append-message-integrity-reads.Asked append-message-integrity-reads.Learnt
-    (λ κs a. (a .0 .now, a .1 .0 .now)) (λ κs z e. (z, e .0 .now))
-determined-append-message-integrity =
-    by append-message-integrity-kinds.ps append-message-integrity-kinds.r append-message-integrity-reads.Asked append-message-integrity-reads.Learnt _ _
-    (λ x. (told (answer (x .0) 0 (integrity (x .1) (x .0))), appended (x .0) 0 (integrity (x .1) (x .0))))
     (λ κs a y d i q. ap₂ (λ (u : Written) (v : List ℕ). (u, v)) (q .0) (q .1))

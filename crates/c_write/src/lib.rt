@@ -1,8 +1,7 @@
-// What C calls: a message begun, raw attributes, FINGERPRINT and MESSAGE-INTEGRITY appended.
+// What C calls: a message begun, and raw attributes appended.
 ghost use mathlib.Core.Path.{_≡_};
 ghost use Rattle.plan.specs.Plan.{planOf};
 ghost use Rattle.append.specs.Append.{attr, answer, appended};
-ghost use Rattle.seal.specs.Seal.{fingerprint, integrity};
 ghost use Rattle.c_write.specs.Said.{told, begunBy, leftBy, planned};
 use c_wire::Id;
 use wire::method::Method;
@@ -106,20 +105,4 @@ pub extern "C" fn cratehoist_append_raw(
         × (now (buffer .exit) ≡ appended (now (buffer .entry)) 0 (attr kind (now (value .entry)) (now (padding .entry)))) ⌝ }
 {
     in_numbers(append::append_raw(buffer, kind, value, padding))
-}
-
-#[no_mangle]
-pub extern "C" fn cratehoist_append_fingerprint(buffer: &mut [u8]) -> Written
-    ensures { λ r. ⌜ (r ≡ told (answer (now (buffer .entry)) 0 (fingerprint (now (buffer .entry)))))
-        × (now (buffer .exit) ≡ appended (now (buffer .entry)) 0 (fingerprint (now (buffer .entry)))) ⌝ }
-{
-    in_numbers(seal::append_fingerprint(buffer))
-}
-
-#[no_mangle]
-pub extern "C" fn cratehoist_append_message_integrity(buffer: &mut [u8], key: &[u8]) -> Written
-    ensures { λ r. ⌜ (r ≡ told (answer (now (buffer .entry)) 0 (integrity (now (key .entry)) (now (buffer .entry)))))
-        × (now (buffer .exit) ≡ appended (now (buffer .entry)) 0 (integrity (now (key .entry)) (now (buffer .entry)))) ⌝ }
-{
-    in_numbers(seal::append_message_integrity(buffer, key))
 }

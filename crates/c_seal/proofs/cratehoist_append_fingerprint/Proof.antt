@@ -1,8 +1,8 @@
 use Rattle.base.specs.Through.{through}
 use Rattle.c_write.specs.Said.{told}
 use borrow.Author.Needs.{needs}
-use Rattle.c_write.proofs.cratehoist_append_fingerprint.Statement.{statement}
-use Rattle.c_write.proofs.cratehoist_append_fingerprint.Tie as tie
+use Rattle.c_seal.proofs.cratehoist_append_fingerprint.Statement.{statement}
+use Rattle.c_seal.proofs.cratehoist_append_fingerprint.Tie as tie
 
 returns : tie.Need-returns
 returns c = (search (through told), search needs)

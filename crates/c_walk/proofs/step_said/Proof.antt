@@ -1,7 +1,7 @@
-use Rattle.c_read.proofs.Sayings.{attribute, end, cut}
+use Rattle.c_walk.proofs.Sayings.{attribute, end, cut}
 use borrow.Author.Needs.{needs}
-use Rattle.c_read.proofs.step_said.Statement.{statement}
-use Rattle.c_read.proofs.step_said.Tie as tie
+use Rattle.c_walk.proofs.step_said.Statement.{statement}
+use Rattle.c_walk.proofs.step_said.Tie as tie
 
 returns : tie.Need-returns
 returns c = search (attribute)

@@ -1,7 +1,7 @@
-use Rattle.c_read.proofs.Sayings.{good, bad}
+use Rattle.c_walk.proofs.Sayings.{good, bad}
 use borrow.Author.Needs.{needs}
-use Rattle.c_read.proofs.header_said.Statement.{statement}
-use Rattle.c_read.proofs.header_said.Tie as tie
+use Rattle.c_walk.proofs.header_said.Statement.{statement}
+use Rattle.c_walk.proofs.header_said.Tie as tie
 
 returns : tie.Need-returns
 returns c = search (good)
