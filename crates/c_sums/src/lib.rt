@@ -69,7 +69,7 @@ pub extern "C" fn cratehoist_same_digest(digest: Digest, bytes: &[u8]) -> bool
     ensures { λ r. ⌜ r ≡ same (digest .bytes) (now (bytes .entry)) ⌝ }
 {
     let own = digest.bytes;
-    hmac::same_digest(own, bytes)
+    digests::same_digest(own, bytes)
 }
 
 #[no_mangle]

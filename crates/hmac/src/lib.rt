@@ -1,11 +1,10 @@
-// HMAC-SHA-1 (RFC 2104): of a slice, and of a datagram's front with another length; and the comparison of digests.
+// HMAC-SHA-1 (RFC 2104): of a slice, and of a datagram's front with another length.
 ghost use mathlib.Core.Path.{_≡_};
 ghost use mathlib.Core.List.{_++_};
 ghost use Prim.Native.Nat.{_+_};
 ghost use lib.ListN.{length, take};
 ghost use Rattle.compression.specs.Compression.{start, compress};
 ghost use Rattle.sha1.specs.Sha1.{finished, sha1, blockOf};
-ghost use Rattle.base.specs.Same.{same};
 ghost use Rattle.numbers.specs.Numbers.{withLength};
 ghost use Rattle.hmac.specs.Hmac as spec;
 use compression::State;
@@ -90,18 +89,4 @@ pub fn hmac_front(k: &[u8], d: &[u8], p: usize, n: u16) -> [u8; 20]
     } else {
         outer(b, inner(h, d, n))
     }
-}
-
-// Whether b is the digest a. Every byte is looked at, so that the time tells nothing of the place where they differ.
-pub fn same_digest(a: [u8; 20], b: &[u8]) -> bool
-    ensures { λ r. ⌜ r ≡ same a (now (b .entry)) ⌝ }
-{
-    if b.len() != 20 {
-        return false;
-    }
-    let mut differing: u8 = 0;
-    for i in 0..20 {
-        differing = differing | (a[i] ^ b[i]);
-    }
-    differing == 0
 }
