@@ -5,19 +5,33 @@ use mathlib.Core.Bool.{Bool, true, false, _&&_}
 use mathlib.Core.Path.{_≡_, refl, sym, ap, _∙_}
 use native.Mathlib.Omega.{arith}
 use native.Mathlib.Numerals.{add-one}
+use borrow.Author.Tests.{le-leb, lt-leb}
 use lib.ListN.{length, getD, drop, drop-of-length-le}
 use lib.Seq.{drop-cons}
 use lib.Dec.{leb}
 use Rattle.unicode.specs.Points.{starts, points}
 
--- a byte, by the test of `right`
-pub is-tail : (b : ℕ) (t : Bool) → t ≡ (leb 0x80 b && leb b 0xBF) → t ≡ true → 0 ≡ starts b
+-- a byte, by the test of `starts`
+is-tail : (b : ℕ) (t : Bool) → t ≡ (leb 0x80 b && leb b 0xBF) → t ≡ true → 0 ≡ starts b
 unfolding starts
 is-tail b t e f = rw (sym e ∙ f)
 
-pub no-tail : (b : ℕ) (t : Bool) → t ≡ (leb 0x80 b && leb b 0xBF) → t ≡ false → 1 ≡ starts b
+no-tail : (b : ℕ) (t : Bool) → t ≡ (leb 0x80 b && leb b 0xBF) → t ≡ false → 1 ≡ starts b
 unfolding starts
 no-tail b t e f = rw (sym e ∙ f)
+
+-- the byte between its two ends, or beyond one
+pub tail : (b : ℕ) → 0x80 ≤ b → b ≤ 0xBF → 0 ≡ starts b
+unfolding starts
+tail b h k = rw (le-leb 0x80 b h, le-leb b 0xBF k)
+
+pub below : (b : ℕ) → b < 0x80 → 1 ≡ starts b
+unfolding starts
+below b h = rw (lt-leb 0x80 b h)
+
+pub above : (b : ℕ) → 0x80 ≤ b → 0xBF < b → 1 ≡ starts b
+unfolding starts
+above b h k = rw (le-leb 0x80 b h, lt-leb b 0xBF k)
 
 pub record Counted (s : List ℕ) (n i : ℕ) : Type 0 where
   pub within : i ≤ length s
