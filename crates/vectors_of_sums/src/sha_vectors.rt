@@ -40,7 +40,7 @@ fn million() -> [u8; 20] {
     for _ in 0..15625usize {
         h = compression::absorb(h, &block);
     }
-    sha1::finish(h, 15625, b"")
+    endings::finish(h, 15625, b"")
 }
 
 // The bytes 0, 1, 2 and so on.

@@ -1,7 +1,7 @@
 use borrow.Author.Needs.{needs}
-use Rattle.sha1.proofs.Padded.{last-one, last-two}
-use Rattle.sha1.proofs.last.Statement.{statement}
-use Rattle.sha1.proofs.last.Tie as tie
+use Rattle.endings.proofs.Padded.{last-one, last-two}
+use Rattle.endings.proofs.last.Statement.{statement}
+use Rattle.endings.proofs.last.Tie as tie
 
 returns : tie.Need-returns
 returns c = search (last-one)

@@ -1,7 +1,7 @@
-use Rattle.sha1.proofs.Padded.{digested}
+use Rattle.endings.proofs.Padded.{digested}
 use borrow.Author.Needs.{needs}
-use Rattle.sha1.proofs.finish.Statement.{statement}
-use Rattle.sha1.proofs.finish.Tie as tie
+use Rattle.endings.proofs.finish.Statement.{statement}
+use Rattle.endings.proofs.finish.Tie as tie
 
 returns : tie.Need-returns
 returns c = search (digested)

@@ -4,10 +4,10 @@ use mathlib.Core.Path.{ap, _∙_}
 use Prim.Native.Nat.{ℕ, _/_}
 use mathlib.Core.List.{[], _++_}
 use lib.ListN.{take}
-use Rattle.sha1.specs.Sha1.{bytes4, countOf}
-use Rattle.sha1.proofs.Padded.{stored8, bits}
-use Rattle.sha1.proofs.counted.Statement.{statement}
-use Rattle.sha1.proofs.counted.Tie as tie
+use Rattle.endings.specs.Finished.{bytes4, countOf}
+use Rattle.endings.proofs.Padded.{stored8, bits}
+use Rattle.endings.proofs.counted.Statement.{statement}
+use Rattle.endings.proofs.counted.Tie as tie
 
 returns : tie.Need-returns
 unfolding countOf

@@ -1,50 +1,16 @@
--- A block that is loaded, and the last blocks of a message: what is left of it, the padding, the count.
-use mathlib.Core.Path.{_≡_, refl, ap, sym, _∙_}
+-- The last blocks of a message: what is left of it, the padding, the count.
+use mathlib.Core.Path.{_≡_, ap, sym, _∙_}
 use mathlib.Core.List.{List, [], _∷_, _++_, append-assoc, append-nil}
 use Prim.Native.Nat.{ℕ, suc, _+_, _-_, _*_, _/_, _%_, _^_, _≤_, _<_}
-use native.Mathlib.Numerals.{add-one}
 use native.Mathlib.Omega.{arith}
-use lib.ListN.{length, take, drop, getD, set, replicate, length-append, length-replicate, length-drop, drop-of-length-le, replicate-append-replicate, take-append-drop}
-use lib.Seq.{take-suc, take-length, set-at, take-at, take-all, sets-eq, length-take-le, append-snoc, set-append-seam}
+use lib.ListN.{length, take, drop, set, replicate, length-append, length-replicate, length-drop, drop-of-length-le, replicate-append-replicate}
+use lib.Seq.{take-at, take-all, sets-eq, set-append-seam}
 use Rattle.compression.specs.declared.State.{State}
-use Rattle.compression.specs.Compression.{start, run}
+use Rattle.compression.specs.Compression.{run}
 use Rattle.compression.specs.CompressionLaws.{run-behind, run-on}
-use Rattle.sha1.specs.Sha1.{countOf, padding, digest, finished, sha1, blockOf}
-use Rattle.sha1.specs.Sha1Laws.{block-short, block-long}
-
--- i bytes of s stand before the zeros of a block
-pub record Filling (s b : List ℕ) (i : ℕ) : Type 0 where
-  pub some : i ≤ length s
-  pub fits : length s ≤ 64
-  pub sofar : b ≡ take i s ++ replicate (64 - i) 0
-
-pub filling-start : (s : List ℕ) → length s ≤ 64 → Filling s (replicate 64 0) 0
-filling-start s h = record { some = omega arith; fits = h; sofar = refl }
-
-pub filling-turn : {s b : List ℕ} {i : ℕ} → Filling s b i → i < length s → Filling s (set b i (getD s i 0)) (i + 1)
-filling-turn {s} {b} {i} l h =
-    let e : 64 - i ≡ suc (63 - i) = omega (arith, l .fits) in
-    let d : 64 - suc i ≡ 63 - i = omega arith in
-    record {
-      some = omega arith;
-      fits = l .fits;
-      sofar =
-          rw (add-one, l .sofar, e, d, take-suc s i 0 h, append-snoc)
-          (set-at (take i s) 0 (replicate (63 - i) 0) (getD s i 0) i (length-take-le i s (omega arith)));
-    }
-
-pub filling-done : {s b : List ℕ} {i : ℕ} → Filling s b i → length s ≤ i → b ≡ blockOf s
-filling-done {s} {b} {i} l h =
-    let e : i ≡ length s = omega (arith, l .some) in
-    l .sofar ∙ rw (e, take-length) (sym (block-short s (l .fits)))
-
--- the first block of a longer list
-pub first-block : (s b : List ℕ) → 64 < length s → b ≡ blockOf (take 64 s) → b ≡ blockOf s
-first-block s b h e =
-    e
-    ∙ block-long (take 64 s) (omega (arith, length-take-le 64 s (omega arith)))
-    ∙ take-all 64 (take 64 s) (omega (arith, length-take-le 64 s (omega arith)))
-    ∙ sym (block-long s (omega arith))
+use Rattle.endings.specs.Finished.{countOf, padding, digest, finished}
+use Rattle.blocks.specs.Block.{blockOf}
+use Rattle.blocks.specs.BlockLaws.{block-short}
 
 -- the count of bits, modulo 2 ^ 64 with no product above it
 pub bits : (n : ℕ) → n % 2305843009213693952 * 8 ≡ n * 8 % 2 ^ 64
@@ -105,8 +71,3 @@ ran s n h {g} {r} e f =
 pub digested : (h : State) (n : ℕ) (s : List ℕ) {g : State} {r : List ℕ} → g ≡ run (s ++ padding n) h → r ≡ digest g → r ≡ finished h n s
 unfolding finished
 digested h n s e f = f ∙ ap digest e
-
--- a whole message, with no block before it
-pub hashed : {r : List ℕ} (s : List ℕ) → r ≡ finished start (0 * 64 + length s) s → r ≡ sha1 s
-unfolding sha1
-hashed s e = let d : 0 * 64 + length s ≡ length s = omega arith in e ∙ ap (λ (n : ℕ). finished start n s) d

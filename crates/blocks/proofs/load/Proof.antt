@@ -1,9 +1,9 @@
 use borrow.Author.Needs.{needs}
 use Prim.Native.Nat.{_-_}
 use lib.ListN.{length}
-use Rattle.sha1.proofs.Padded.{Filling, filling-start, filling-turn, filling-done}
-use Rattle.sha1.proofs.load.Statement.{statement}
-use Rattle.sha1.proofs.load.Tie as tie
+use Rattle.blocks.proofs.Filled.{Filling, filling-start, filling-turn, filling-done}
+use Rattle.blocks.proofs.load.Statement.{statement}
+use Rattle.blocks.proofs.load.Tie as tie
 
 abbrev Inv-loop : tie.InvT-loop
 Inv-loop s b₀ i₀ i-end b i = Filling s b i

@@ -1,7 +1,7 @@
 use borrow.Author.Needs.{needs}
-use Rattle.sha1.proofs.Padded.{ran}
-use Rattle.sha1.proofs.run.Statement.{statement}
-use Rattle.sha1.proofs.run.Tie as tie
+use Rattle.endings.proofs.Padded.{ran}
+use Rattle.endings.proofs.run.Statement.{statement}
+use Rattle.endings.proofs.run.Tie as tie
 
 returns : tie.Need-returns
 returns c = search (ran)

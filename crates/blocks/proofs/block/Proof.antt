@@ -1,7 +1,7 @@
 use borrow.Author.Needs.{needs}
-use Rattle.sha1.proofs.Padded.{first-block}
-use Rattle.sha1.proofs.block.Statement.{statement}
-use Rattle.sha1.proofs.block.Tie as tie
+use Rattle.blocks.proofs.Filled.{first-block}
+use Rattle.blocks.proofs.block.Statement.{statement}
+use Rattle.blocks.proofs.block.Tie as tie
 
 returns-2 : tie.Need-returns-2
 returns-2 c = search (first-block)
