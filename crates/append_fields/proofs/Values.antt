@@ -10,8 +10,9 @@ use lib.ListN.{length, take, drop, set, replicate, drop-of-length-le}
 use lib.Seq.{take-at}
 use lib.Dec.{ltb}
 use Rattle.base.specs.Laid.{laid, laid-is}
-use Rattle.numbers.specs.Numbers.{two, put}
-use Rattle.numbers.specs.PutLaws.{put-laid, put-behind}
+use Rattle.numbers.specs.Numbers.{two}
+use Rattle.buffers.specs.Put.{put}
+use Rattle.buffers.specs.PutLaws.{put-laid, put-behind}
 use Rattle.wire.specs.declared.transaction_id.TransactionId.{TransactionId}
 use Rattle.header.specs.Header.{frontOf}
 use Rattle.header.specs.declared.Header.{Header}

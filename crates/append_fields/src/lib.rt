@@ -15,10 +15,10 @@ ghost use Rattle.append_fields.specs.Fields.{addressNumber, addressValue
 use append_typed::append_value;
 use append_typed::refusal_of;
 use begin::Written;
+use buffers::put_bytes;
+use buffers::put_u16;
 use net::SocketAddr;
 use net::socket_addr_xor;
-use numbers::put_bytes;
-use numbers::put_u16;
 use wire::transaction_id::TransactionId;
 
 pub enum AddressKind {

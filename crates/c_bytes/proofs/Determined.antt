@@ -4,7 +4,8 @@ use mathlib.Core.List.{List}
 use mathlib.Core.Bool.{Bool}
 use mathlib.Core.Path.{ap₂}
 use Rattle.base.specs.Determined.{Determines, by}
-use Rattle.numbers.specs.Numbers.{be16, be32, two, four, fitsAt, put}
+use Rattle.numbers.specs.Numbers.{be16, be32, two, four}
+use Rattle.buffers.specs.Put.{fitsAt, put}
 use Rattle.c_bytes.proofs.cratehoist_u16_at.Kinds as u16-at-kinds
 use Rattle.c_bytes.proofs.cratehoist_u16_at.Reads as u16-at-reads
 use Rattle.c_bytes.proofs.cratehoist_u32_at.Kinds as u32-at-kinds

@@ -4,7 +4,7 @@ use mathlib.Core.List.{List}
 use mathlib.Core.Bool.{Bool}
 use mathlib.Core.Path.{ap₂}
 use Rattle.base.specs.Determined.{Determines, by}
-use Rattle.numbers.specs.Numbers.{fitsAt, put}
+use Rattle.buffers.specs.Put.{fitsAt, put}
 use Rattle.constants.specs.Cookie.{cookie, cookieAt}
 use Rattle.net.specs.Net.{xored}
 use Rattle.c_cookie.proofs.cratehoist_cookie_at.Kinds as cookie-at-kinds

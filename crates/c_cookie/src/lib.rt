@@ -1,6 +1,6 @@
 // What C calls: the cookie, and bytes xored. Each is the library's call under a plain name.
 ghost use mathlib.Core.Path.{_≡_};
-ghost use Rattle.numbers.specs.Numbers.{fitsAt, put};
+ghost use Rattle.buffers.specs.Put.{fitsAt, put};
 ghost use Rattle.constants.specs.Cookie.{cookie, cookieAt};
 ghost use Rattle.net.specs.Net.{xored};
 

@@ -2,8 +2,8 @@ use Prim.Native.Nat.{_-_}
 use lib.ListN.{length}
 use Rattle.base.specs.Laid.{Laying, laying-start, laying-turn, laying-done}
 use borrow.Author.Needs.{needs}
-use Rattle.numbers.proofs.lay.Statement.{statement}
-use Rattle.numbers.proofs.lay.Tie as tie
+use Rattle.buffers.proofs.lay.Statement.{statement}
+use Rattle.buffers.proofs.lay.Tie as tie
 
 abbrev Inv-loop : tie.InvT-loop
 Inv-loop buf₀ at src j₀ buf j = Laying buf₀ src at buf j

@@ -5,7 +5,7 @@ use mathlib.Core.Path.{_≡_, _∙_}
 use borrow.Author.Tests.{le-leb}
 use lib.ListN.{length}
 use Rattle.base.specs.Laid.{laid, length-laid, laid-append}
-use Rattle.numbers.specs.Numbers.{fitsAt, put}
+use Rattle.buffers.specs.Put.{fitsAt, put}
 
 pub put-laid : (l : List ℕ) (p : ℕ) (s : List ℕ) → p + length s ≤ length l → put l p s ≡ laid l p s
 unfolding put fitsAt

@@ -1,7 +1,7 @@
-use Rattle.numbers.proofs.Cases.{put-room, yes-fits, yes-put, no-fits, no-put}
+use Rattle.buffers.proofs.Cases.{put-room, yes-fits, yes-put, no-fits, no-put}
 use borrow.Author.Needs.{needs}
-use Rattle.numbers.proofs.put_bytes.Statement.{statement}
-use Rattle.numbers.proofs.put_bytes.Tie as tie
+use Rattle.buffers.proofs.put_bytes.Statement.{statement}
+use Rattle.buffers.proofs.put_bytes.Tie as tie
 
 lay-requires : tie.Need-lay-requires
 lay-requires c κs = search (put-room)

@@ -1,7 +1,6 @@
-use Rattle.numbers.proofs.Cases.{fits, fits-not}
-use borrow.Author.Needs.{needs}
-use Rattle.numbers.proofs.fits.Statement.{statement}
-use Rattle.numbers.proofs.fits.Tie as tie
+use Rattle.buffers.proofs.Cases.{fits, fits-not}
+use Rattle.buffers.proofs.fits.Statement.{statement}
+use Rattle.buffers.proofs.fits.Tie as tie
 
 returns : tie.Need-returns
 returns c = search (fits-not)
