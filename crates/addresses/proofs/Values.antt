@@ -5,8 +5,9 @@ use mathlib.Core.Path.{_≡_, refl, sym, ap, ap₂, _∙_}
 use native.Mathlib.Omega.{arith}
 use lib.ListN.{length, take, drop, set, replicate, drop-of-length-le}
 use Rattle.base.specs.Laid.{laid, laid-is}
-use Rattle.numbers.specs.Numbers.{two, put}
-use Rattle.numbers.specs.PutLaws.{put-laid, put-behind}
+use Rattle.numbers.specs.Numbers.{two}
+use Rattle.buffers.specs.Put.{put}
+use Rattle.buffers.specs.PutLaws.{put-laid, put-behind}
 use Rattle.wire.specs.declared.transaction_id.TransactionId.{TransactionId}
 use Rattle.header.specs.Header.{frontOf}
 use Rattle.header.specs.declared.Header.{Header}

@@ -9,10 +9,10 @@ ghost use Rattle.append_typed.specs.Typed.{typed};
 ghost use Rattle.addresses.specs.Address.{addressNumber, addressValue, given};
 use append_typed::append_value;
 use begin::Written;
+use buffers::put_bytes;
+use buffers::put_u16;
 use net::SocketAddr;
 use net::socket_addr_xor;
-use numbers::put_bytes;
-use numbers::put_u16;
 use wire::transaction_id::TransactionId;
 
 pub enum AddressKind {

@@ -5,8 +5,9 @@ use mathlib.Core.Path.{_≡_, ap, _∙_}
 use native.Mathlib.Omega.{arith}
 use lib.ListN.{length, length-append}
 use Rattle.base.specs.Laid.{laid, length-laid}
-use Rattle.numbers.specs.Numbers.{two, put}
-use Rattle.numbers.specs.PutLaws.{put-laid, put-behind}
+use Rattle.numbers.specs.Numbers.{two}
+use Rattle.buffers.specs.Put.{put}
+use Rattle.buffers.specs.PutLaws.{put-laid, put-behind}
 use Rattle.attribute.specs.Attribute.{bytesOf}
 use Rattle.begin.specs.declared.Written.the-variants.{Total, Refused}
 use Rattle.plan.specs.Plan.{planOf}

@@ -6,8 +6,8 @@ ghost use Rattle.base.specs.Laid.{laid};
 ghost use Rattle.attribute.specs.Attribute.{bytesOf};
 ghost use Rattle.append.specs.Append.{attr, answer, appended};
 use begin::Written;
-use numbers::put_bytes;
-use numbers::put_u16;
+use buffers::put_bytes;
+use buffers::put_u16;
 use plan::Plan;
 
 fn put_attr(buf: &mut [u8], at: usize, kind: u16, value: &[u8], pad: &[u8])

@@ -9,8 +9,9 @@ use lib.ListN.{length}
 use lib.Dec.{ltb}
 use Rattle.base.specs.Choice.{pick}
 use Rattle.base.specs.Laid.{laid}
-use Rattle.numbers.specs.Numbers.{two, put}
-use Rattle.numbers.specs.PutLaws.{put-laid, put-behind}
+use Rattle.numbers.specs.Numbers.{two}
+use Rattle.buffers.specs.Put.{put}
+use Rattle.buffers.specs.PutLaws.{put-laid, put-behind}
 use Rattle.constants.specs.Cookie.{cookie}
 use Rattle.wire.specs.TypeNumber.{typeOf, classNumber, typeNumber}
 use Rattle.wire.specs.declared.method.Method.{Method}

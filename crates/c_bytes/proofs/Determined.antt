@@ -4,9 +4,8 @@ use mathlib.Core.List.{List}
 use mathlib.Core.Bool.{Bool}
 use mathlib.Core.Path.{ap₂}
 use Rattle.base.specs.Determined.{Determines, by}
-use Rattle.numbers.specs.Numbers.{be16, be32, two, four, fitsAt, put}
-use Rattle.constants.specs.Cookie.{cookie, cookieAt}
-use Rattle.net.specs.Net.{xored}
+use Rattle.numbers.specs.Numbers.{be16, be32, two, four}
+use Rattle.buffers.specs.Put.{fitsAt, put}
 use Rattle.c_bytes.proofs.cratehoist_u16_at.Kinds as u16-at-kinds
 use Rattle.c_bytes.proofs.cratehoist_u16_at.Reads as u16-at-reads
 use Rattle.c_bytes.proofs.cratehoist_u32_at.Kinds as u32-at-kinds
@@ -17,12 +16,6 @@ use Rattle.c_bytes.proofs.cratehoist_put_u16.Kinds as put-u16-kinds
 use Rattle.c_bytes.proofs.cratehoist_put_u16.Reads as put-u16-reads
 use Rattle.c_bytes.proofs.cratehoist_put_u32.Kinds as put-u32-kinds
 use Rattle.c_bytes.proofs.cratehoist_put_u32.Reads as put-u32-reads
-use Rattle.c_bytes.proofs.cratehoist_cookie_at.Kinds as cookie-at-kinds
-use Rattle.c_bytes.proofs.cratehoist_cookie_at.Reads as cookie-at-reads
-use Rattle.c_bytes.proofs.cratehoist_put_cookie.Kinds as put-cookie-kinds
-use Rattle.c_bytes.proofs.cratehoist_put_cookie.Reads as put-cookie-reads
-use Rattle.c_bytes.proofs.cratehoist_xor_bytes.Kinds as xor-bytes-kinds
-use Rattle.c_bytes.proofs.cratehoist_xor_bytes.Reads as xor-bytes-reads
 
 pub determined-u16-at : Determines u16-at-kinds.ps u16-at-kinds.r {I = List ℕ × ℕ} {A = ℕ} u16-at-reads.Asked u16-at-reads.Learnt
     (λ κs a. (a .0 .now, a .1 .0)) (λ κs z e. z)
@@ -58,24 +51,3 @@ determined-put-u32 =
     by put-u32-kinds.ps put-u32-kinds.r put-u32-reads.Asked put-u32-reads.Learnt _ _
     (λ x. (fitsAt (x .0) (x .1) (four (x .2)), put (x .0) (x .1) (four (x .2))))
     (λ κs a y d i q. ap₂ (λ (u : Bool) (v : List ℕ). (u, v)) (q .0) (q .1))
-
-pub determined-cookie-at : Determines cookie-at-kinds.ps cookie-at-kinds.r {I = List ℕ × ℕ} {A = Bool} cookie-at-reads.Asked cookie-at-reads.Learnt
-    (λ κs a. (a .0 .now, a .1 .0)) (λ κs z e. z)
-determined-cookie-at =
-    by cookie-at-kinds.ps cookie-at-kinds.r cookie-at-reads.Asked cookie-at-reads.Learnt _ _
-    (λ x. cookieAt (x .0) (x .1))
-    (λ κs a y d i q. q)
-
-pub determined-put-cookie : Determines put-cookie-kinds.ps put-cookie-kinds.r {I = List ℕ × ℕ} {A = Bool × List ℕ} put-cookie-reads.Asked put-cookie-reads.Learnt
-    (λ κs a. (a .0 .now, a .1 .0)) (λ κs z e. (z, e .0 .now))
-determined-put-cookie =
-    by put-cookie-kinds.ps put-cookie-kinds.r put-cookie-reads.Asked put-cookie-reads.Learnt _ _
-    (λ x. (fitsAt (x .0) (x .1) cookie, put (x .0) (x .1) cookie))
-    (λ κs a y d i q. ap₂ (λ (u : Bool) (v : List ℕ). (u, v)) (q .0) (q .1))
-
-pub determined-xor-bytes : Determines xor-bytes-kinds.ps xor-bytes-kinds.r {I = List ℕ × List ℕ} {A = List ℕ} xor-bytes-reads.Asked xor-bytes-reads.Learnt
-    (λ κs a. (a .0 .now, a .1 .0 .now)) (λ κs z e. e .0 .now)
-determined-xor-bytes =
-    by xor-bytes-kinds.ps xor-bytes-kinds.r xor-bytes-reads.Asked xor-bytes-reads.Learnt _ _
-    (λ x. xored (x .0) (x .1))
-    (λ κs a y d i q. q)

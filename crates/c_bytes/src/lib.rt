@@ -1,8 +1,7 @@
-// What C calls: numbers at a place, the cookie, and bytes xored. Each is the library's call under a plain name.
+// What C calls: numbers at a place. Each is the library's call under a plain name.
 ghost use mathlib.Core.Path.{_≡_};
-ghost use Rattle.numbers.specs.Numbers.{be16, be32, two, four, fitsAt, put};
-ghost use Rattle.constants.specs.Cookie.{cookie, cookieAt};
-ghost use Rattle.net.specs.Net.{xored};
+ghost use Rattle.numbers.specs.Numbers.{be16, be32, two, four};
+ghost use Rattle.buffers.specs.Put.{fitsAt, put};
 
 #[no_mangle]
 pub extern "C" fn cratehoist_u16_at(bytes: &[u8], place: usize) -> u16
@@ -22,40 +21,19 @@ pub extern "C" fn cratehoist_u32_at(bytes: &[u8], place: usize) -> u32
 pub extern "C" fn cratehoist_put_bytes(buffer: &mut [u8], place: usize, bytes: &[u8]) -> bool
     ensures { λ r. ⌜ (r ≡ fitsAt (now (buffer .entry)) place (now (bytes .entry))) × (now (buffer .exit) ≡ put (now (buffer .entry)) place (now (bytes .entry))) ⌝ }
 {
-    numbers::put_bytes(buffer, place, bytes)
+    buffers::put_bytes(buffer, place, bytes)
 }
 
 #[no_mangle]
 pub extern "C" fn cratehoist_put_u16(buffer: &mut [u8], place: usize, number: u16) -> bool
     ensures { λ r. ⌜ (r ≡ fitsAt (now (buffer .entry)) place (two number)) × (now (buffer .exit) ≡ put (now (buffer .entry)) place (two number)) ⌝ }
 {
-    numbers::put_u16(buffer, place, number)
+    buffers::put_u16(buffer, place, number)
 }
 
 #[no_mangle]
 pub extern "C" fn cratehoist_put_u32(buffer: &mut [u8], place: usize, number: u32) -> bool
     ensures { λ r. ⌜ (r ≡ fitsAt (now (buffer .entry)) place (four number)) × (now (buffer .exit) ≡ put (now (buffer .entry)) place (four number)) ⌝ }
 {
-    numbers::put_u32(buffer, place, number)
-}
-
-#[no_mangle]
-pub extern "C" fn cratehoist_cookie_at(bytes: &[u8], place: usize) -> bool
-    ensures { λ r. ⌜ r ≡ cookieAt (now (bytes .entry)) place ⌝ }
-{
-    constants::cookie_at(bytes, place)
-}
-
-#[no_mangle]
-pub extern "C" fn cratehoist_put_cookie(buffer: &mut [u8], place: usize) -> bool
-    ensures { λ r. ⌜ (r ≡ fitsAt (now (buffer .entry)) place cookie) × (now (buffer .exit) ≡ put (now (buffer .entry)) place cookie) ⌝ }
-{
-    constants::put_cookie(buffer, place)
-}
-
-#[no_mangle]
-pub extern "C" fn cratehoist_xor_bytes(buffer: &mut [u8], mask: &[u8])
-    ensures { λ _. ⌜ now (buffer .exit) ≡ xored (now (buffer .entry)) (now (mask .entry)) ⌝ }
-{
-    net::xor_bytes(buffer, mask)
+    buffers::put_u32(buffer, place, number)
 }

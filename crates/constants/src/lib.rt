@@ -1,6 +1,6 @@
 // The magic cookie, compared on reading and written by begin.
 ghost use mathlib.Core.Path.{_≡_};
-ghost use Rattle.numbers.specs.Numbers.{fitsAt, put};
+ghost use Rattle.buffers.specs.Put.{fitsAt, put};
 ghost use Rattle.constants.specs.Cookie.{cookie, cookieAt};
 
 // The cookie as a number (RFC 5389 section 6).
@@ -31,5 +31,5 @@ pub fn cookie_at(d: &[u8], at: usize) -> bool
 pub fn put_cookie(buf: &mut [u8], at: usize) -> bool
     ensures { λ r. ⌜ (r ≡ fitsAt (now (buf .entry)) at cookie) × (now (buf .exit) ≡ put (now (buf .entry)) at cookie) ⌝ }
 {
-    numbers::put_bytes(buf, at, b"\x21\x12\xA4\x42")
+    buffers::put_bytes(buf, at, b"\x21\x12\xA4\x42")
 }

@@ -10,8 +10,8 @@ use lib.ListN.{length, take, drop, set, replicate}
 use lib.Seq.{take-at}
 use lib.Dec.{ltb}
 use Rattle.base.specs.Laid.{laid-is}
-use Rattle.numbers.specs.Numbers.{put}
-use Rattle.numbers.specs.PutLaws.{put-laid}
+use Rattle.buffers.specs.Put.{put}
+use Rattle.buffers.specs.PutLaws.{put-laid}
 use Rattle.rfc5389.specs.Rows.{rfc5389, look}
 use Rattle.rfc5389.specs.Fault.{fault, sizeFault}
 use Rattle.begin.specs.declared.Written.{Written}

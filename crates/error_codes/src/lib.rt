@@ -11,7 +11,7 @@ ghost use Rattle.error_codes.specs.ErrorCode.{codeValue, codeRefusal};
 use append_typed::append_value;
 use append_typed::refusal_of;
 use begin::Written;
-use numbers::put_bytes;
+use buffers::put_bytes;
 
 // The bytes of an error code and its phrase, with zeros behind.
 fn code_bytes(code: u16, phrase: &[u8]) -> [u8; 131]

@@ -1,18 +1,14 @@
 -- The contract of each public call determines its result.
 use Prim.Native.Nat.{ℕ}
-use mathlib.Core.Bool.{Bool}
 use mathlib.Core.List.{List}
 use lib.ListN.{take}
 use Rattle.base.specs.Determined.{Determines, by}
-use Rattle.base.specs.Same.{same}
 use Rattle.numbers.specs.Numbers.{withLength}
 use Rattle.hmac.specs.Hmac.{hmacOf}
 use Rattle.hmac.proofs.hmac.Kinds as hmac
 use Rattle.hmac.proofs.hmac.Reads as hmac-reads
 use Rattle.hmac.proofs.hmac_front.Kinds as front
 use Rattle.hmac.proofs.hmac_front.Reads as front-reads
-use Rattle.hmac.proofs.same_digest.Kinds as same-digest
-use Rattle.hmac.proofs.same_digest.Reads as same-digest-reads
 
 pub hmac-determined : Determines hmac.ps hmac.r {I = List ℕ × List ℕ} {A = List ℕ} hmac-reads.Asked hmac-reads.Learnt
     (λ κs a. (a .0 .now, a .1 .0 .now)) (λ κs z e. z)
@@ -23,11 +19,4 @@ pub front-determined : Determines front.ps front.r {I = List ℕ × List ℕ × 
 front-determined =
     by front.ps front.r front-reads.Asked front-reads.Learnt _ _
     (λ x. hmacOf (x .0) (withLength (take (x .2) (x .1)) (x .3)))
-    (λ κs a y d i q. q)
-
-pub same-digest-determined : Determines same-digest.ps same-digest.r {I = List ℕ × List ℕ} {A = Bool} same-digest-reads.Asked same-digest-reads.Learnt
-    (λ κs a. (a .0, a .1 .0 .now)) (λ κs z e. z)
-same-digest-determined =
-    by same-digest.ps same-digest.r same-digest-reads.Asked same-digest-reads.Learnt _ _
-    (λ x. same (x .0) (x .1))
     (λ κs a y d i q. q)

@@ -8,8 +8,11 @@ use lib.Seq.{take-at, take-all, drop-set-lt}
 use Rattle.compression.specs.declared.State.{State}
 use Rattle.compression.specs.Compression.{start, compress, run}
 use Rattle.compression.specs.CompressionLaws.{run-one}
-use Rattle.sha1.specs.Sha1.{finished, sha1, blockOf}
-use Rattle.sha1.specs.Sha1Laws.{finished-block, block-short, block-long, length-block}
+use Rattle.blocks.specs.Block.{blockOf}
+use Rattle.blocks.specs.BlockLaws.{block-short, block-long, length-block}
+use Rattle.endings.specs.Finished.{finished}
+use Rattle.endings.specs.FinishedLaws.{finished-block}
+use Rattle.sha1.specs.Sha1.{sha1}
 use Rattle.numbers.specs.Numbers.{withLength}
 use Rattle.numbers.specs.NumbersLaws.{length-withLength}
 use Rattle.hmac.specs.Hmac.{keyBlock, xored, hmacOf}

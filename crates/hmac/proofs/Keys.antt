@@ -12,8 +12,11 @@ use lib.Bits.{bitXor}
 use Rattle.compression.specs.declared.State.{State}
 use Rattle.compression.specs.Compression.{start, compress, run}
 use Rattle.compression.specs.CompressionLaws.{run-one}
-use Rattle.sha1.specs.Sha1.{finished, sha1, blockOf}
-use Rattle.sha1.specs.Sha1Laws.{finished-block, length-block}
+use Rattle.blocks.specs.Block.{blockOf}
+use Rattle.blocks.specs.BlockLaws.{length-block}
+use Rattle.endings.specs.Finished.{finished}
+use Rattle.endings.specs.FinishedLaws.{finished-block}
+use Rattle.sha1.specs.Sha1.{sha1}
 use Rattle.hmac.specs.Hmac.{keyBlock, xored, hmacOf}
 
 pub short-key : (k : List ℕ) {r : List ℕ} → length k ≤ 64 → r ≡ blockOf k → r ≡ keyBlock k

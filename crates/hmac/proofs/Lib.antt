@@ -1,4 +1,3 @@
 pub mod Keys
 pub mod Front
-pub mod Comparison
 pub mod Determined

@@ -1,11 +1,12 @@
-// HMAC-SHA-1 (RFC 2104): of a slice, and of a datagram's front with another length; and the comparison of digests.
+// HMAC-SHA-1 (RFC 2104): of a slice, and of a datagram's front with another length.
 ghost use mathlib.Core.Path.{_≡_};
 ghost use mathlib.Core.List.{_++_};
 ghost use Prim.Native.Nat.{_+_};
 ghost use lib.ListN.{length, take};
 ghost use Rattle.compression.specs.Compression.{start, compress};
-ghost use Rattle.sha1.specs.Sha1.{finished, sha1, blockOf};
-ghost use Rattle.base.specs.Same.{same};
+ghost use Rattle.blocks.specs.Block.{blockOf};
+ghost use Rattle.endings.specs.Finished.{finished};
+ghost use Rattle.sha1.specs.Sha1.{sha1};
 ghost use Rattle.numbers.specs.Numbers.{withLength};
 ghost use Rattle.hmac.specs.Hmac as spec;
 use compression::State;
@@ -15,10 +16,10 @@ fn key_block(k: &[u8]) -> [u8; 64]
     ensures { λ r. ⌜ r ≡ spec.keyBlock (now (k .entry)) ⌝ }
 {
     if k.len() <= 64 {
-        sha1::block(k)
+        blocks::block(k)
     } else {
         let d = sha1::hash(k);
-        sha1::block(&d)
+        blocks::block(&d)
     }
 }
 
@@ -45,7 +46,7 @@ fn keyed(k: [u8; 64], x: u8) -> State
 fn outer(k: [u8; 64], m: [u8; 20]) -> [u8; 20]
     ensures { λ r. ⌜ r ≡ sha1 (spec.xored k 0x5c ++ m) ⌝ }
 {
-    sha1::finish(keyed(k, 0x5c), 1, &m)
+    endings::finish(keyed(k, 0x5c), 1, &m)
 }
 
 // HMAC-SHA-1 of the message m under the key k.
@@ -53,14 +54,14 @@ pub fn hmac(k: &[u8], m: &[u8]) -> [u8; 20]
     ensures { λ r. ⌜ r ≡ spec.hmacOf (now (k .entry)) (now (m .entry)) ⌝ }
 {
     let b = key_block(k);
-    outer(b, sha1::finish(keyed(b, 0x36), 1, m))
+    outer(b, endings::finish(keyed(b, 0x36), 1, m))
 }
 
 // The first block of m, with n in the length field.
 fn relabelled(m: &[u8], n: u16) -> [u8; 64]
     ensures { λ r. ⌜ r ≡ withLength (blockOf (now (m .entry))) n ⌝ }
 {
-    let mut b = sha1::block(m);
+    let mut b = blocks::block(m);
     b[2] = (n / 256) as u8;
     b[3] = (n % 256) as u8;
     b
@@ -73,9 +74,9 @@ fn inner(h: State, m: &[u8], n: u16) -> [u8; 20]
     let b = relabelled(m, n);
     let p = m.len();
     if p < 64 {
-        sha1::finish(h, 1, &b[0..p])
+        endings::finish(h, 1, &b[0..p])
     } else {
-        sha1::finish(compression::absorb(h, &b), 2, &m[64..])
+        endings::finish(compression::absorb(h, &b), 2, &m[64..])
     }
 }
 
@@ -90,18 +91,4 @@ pub fn hmac_front(k: &[u8], d: &[u8], p: usize, n: u16) -> [u8; 20]
     } else {
         outer(b, inner(h, d, n))
     }
-}
-
-// Whether b is the digest a. Every byte is looked at, so that the time tells nothing of the place where they differ.
-pub fn same_digest(a: [u8; 20], b: &[u8]) -> bool
-    ensures { λ r. ⌜ r ≡ same a (now (b .entry)) ⌝ }
-{
-    if b.len() != 20 {
-        return false;
-    }
-    let mut differing: u8 = 0;
-    for i in 0..20 {
-        differing = differing | (a[i] ^ b[i]);
-    }
-    differing == 0
 }

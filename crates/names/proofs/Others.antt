@@ -5,7 +5,7 @@ use mathlib.Core.Path.{_≡_}
 use native.Mathlib.Omega.{arith}
 use borrow.Author.Tests.{eq-eqb, ne-eqb}
 use lib.ListN.{length, take, drop, replicate, length-take, length-drop}
-use Rattle.numbers.specs.Numbers.{put}
+use Rattle.buffers.specs.Put.{put}
 use Rattle.wire.specs.declared.types.MessageClass.{MessageClass}
 use Rattle.wire.specs.declared.types.MessageClass.the-variants.{Request, Indication, SuccessResponse, ErrorResponse}
 use Rattle.names.specs.Ascii.{ascii}

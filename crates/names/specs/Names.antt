@@ -5,7 +5,7 @@ use mathlib.Core.List.{List}
 use lib.Dec.{eqb}
 use lib.ListN.{length, replicate}
 use Rattle.base.specs.Choice.{pick}
-use Rattle.numbers.specs.Numbers.{put}
+use Rattle.buffers.specs.Put.{put}
 use Rattle.wire.specs.declared.types.MessageClass.{MessageClass}
 use Rattle.wire.specs.declared.types.MessageClass.the-variants.{Request, Indication, SuccessResponse, ErrorResponse}
 use Rattle.names.specs.Ascii.{ascii}

@@ -18,7 +18,7 @@ fn of(s: &[u8], a: usize, e: usize) -> Name
     ensures { λ r. ⌜ r ≡ named (take (e - a) (drop a (now (s .entry)))) ⌝ }
 {
     let mut text = [0u8; 32];
-    numbers::put_bytes(&mut text, 0, &s[a..e]);
+    buffers::put_bytes(&mut text, 0, &s[a..e]);
     Name {
         text: text,
         size: e - a,

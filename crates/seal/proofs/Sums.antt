@@ -6,8 +6,9 @@ use native.Mathlib.Omega.{arith}
 use borrow.Author.Tests.{le-ltb}
 use lib.ListN.{length, take, replicate}
 use Rattle.base.specs.Laid.{laid}
-use Rattle.numbers.specs.Numbers.{be16, four, put, withLength}
-use Rattle.numbers.specs.PutLaws.{put-laid}
+use Rattle.numbers.specs.Numbers.{be16, four, withLength}
+use Rattle.buffers.specs.Put.{put}
+use Rattle.buffers.specs.PutLaws.{put-laid}
 use Rattle.fingerprint.specs.Fingerprint.{fingerprintAt, printed}
 use Rattle.hmac.specs.Hmac.{hmacOf}
 use Rattle.hmac.specs.HmacLaws.{length-hmac}

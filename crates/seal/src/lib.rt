@@ -4,9 +4,9 @@ ghost use Rattle.append.specs.Append.{answer, appended};
 ghost use Rattle.seal.specs.Seal.{fingerprint, integrity};
 use append::append_raw;
 use begin::Written;
+use buffers::put_u32;
 use fingerprint::FINGERPRINT;
 use fingerprint::fingerprint_at;
-use numbers::put_u32;
 use numbers::u16_at;
 
 pub const MESSAGE_INTEGRITY: u16 = 0x0008;

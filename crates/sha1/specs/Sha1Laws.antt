@@ -1,44 +1,10 @@
--- Laws of SHA-1's definition that its callers cite: a block in front of a message, and what a block is.
-use mathlib.Core.Path.{_≡_, refl, ap, sym, _∙_}
-use mathlib.Core.List.{List, _++_, append-assoc}
-use Prim.Native.Nat.{ℕ, _+_, _-_, _≤_}
-use native.Mathlib.Omega.{arith}
-use lib.ListN.{length, take, replicate, length-append, length-replicate, replicate-append-replicate}
-use lib.Seq.{take-at, take-append-le, take-append-add, length-take-le}
-use Rattle.compression.specs.declared.State.{State}
-use Rattle.compression.specs.Compression.{compress, run}
-use Rattle.compression.specs.CompressionLaws.{run-block}
-use Rattle.sha1.specs.Sha1.{padding, digest, finished, sha1, blockOf}
-
--- a whole block in front of the rest of a message
-pub finished-block : (b s : List ℕ) (n : ℕ) (h : State) → length b ≡ 64 → finished h n (b ++ s) ≡ finished (compress b h) n s
-unfolding finished
-finished-block b s n h e = ap (λ (p : List ℕ). digest (run p h)) (append-assoc b s (padding n)) ∙ ap digest (run-block b (s ++ padding n) h e)
-
-zeros-behind : (s : List ℕ) (m : ℕ) → length s ≤ m → take m (s ++ replicate m 0) ≡ s ++ replicate (m - length s) 0
-zeros-behind s m h =
-    let k = m - length s in
-    let e : m ≡ length s + k = omega arith in
-    let d : m ≡ k + length s = omega arith in
-    let z : take {A = ℕ} k (replicate m 0) ≡ replicate k 0 =
-    ap (λ (j : ℕ). take {A = ℕ} k (replicate j 0)) d
-    ∙ ap (take k) (sym (replicate-append-replicate {A = ℕ} k (length s) 0))
-    ∙ take-at (replicate {A = ℕ} k 0) (replicate (length s) 0) k (length-replicate k 0) in
-    ap (λ (j : ℕ). take j (s ++ replicate m 0)) e ∙ take-append-add s (replicate m 0) k ∙ ap (λ (l : List ℕ). s ++ l) z
-
--- at most 64 bytes, and zeros behind them
-pub block-short : (s : List ℕ) → length s ≤ 64 → blockOf s ≡ s ++ replicate (64 - length s) 0
-unfolding blockOf
-block-short s h = zeros-behind s 64 h
-
--- 64 bytes and more: the first 64
-pub block-long : (s : List ℕ) → 64 ≤ length s → blockOf s ≡ take 64 s
-unfolding blockOf
-block-long s h = take-append-le 64 s (replicate 64 0) h
-
-pub length-block : (s : List ℕ) → length (blockOf s) ≡ 64
-unfolding blockOf
-length-block s = length-take-le 64 (s ++ replicate 64 0) (omega (arith, length-append s (replicate {A = ℕ} 64 0)))
+-- The digest's size, for callers.
+use mathlib.Core.Path.{_≡_, refl}
+use mathlib.Core.List.{List}
+use Prim.Native.Nat.{ℕ}
+use lib.ListN.{length}
+use Rattle.endings.specs.Finished.{finished}
+use Rattle.sha1.specs.Sha1.{sha1}
 
 pub length-sha1 : (m : List ℕ) → length (sha1 m) ≡ 20
 unfolding sha1 finished

@@ -166,7 +166,7 @@ fn take(s: &[u8], wanted: [usize; FIELDS], bytes: &mut [u8; LONGEST]) -> Taken {
 // begin CLASS METHOD ID
 fn begun(t: Taken, bytes: &[u8], message: &mut [u8]) -> Written {
     let mut id = [0u8; 12];
-    numbers::put_bytes(&mut id, 0, part(bytes, 0, 12));
+    buffers::put_bytes(&mut id, 0, part(bytes, 0, 12));
     begin::begin(
         message,
         class_of(t.first),
@@ -190,7 +190,7 @@ fn is_pair(family: Family, n: u64, ip: &[u8]) -> bool {
 
 fn socket_addr(family: Family, port: u16, ip: &[u8]) -> SocketAddr {
     let mut all = [0u8; 16];
-    numbers::put_bytes(&mut all, 0, ip);
+    buffers::put_bytes(&mut all, 0, ip);
     SocketAddr {
         family,
         port,

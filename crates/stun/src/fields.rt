@@ -81,7 +81,7 @@ fn put_type(t: &[u8], out: &mut [u8], at: usize) -> bool {
     if 65535 < n {
         return false;
     }
-    numbers::put_u16(out, at, n as u16)
+    buffers::put_u16(out, at, n as u16)
 }
 
 // The same of types parted by commas, two bytes each, `-` for none.

@@ -89,7 +89,7 @@ fn keep(b: u8, g: Reached, raw: &mut [u8]) {
     let digits = [g.last, b];
     let mut byte = [0u8; 1];
     text::unhex(&digits, &mut byte);
-    numbers::put_bytes(raw, (g.digits / 2) as usize, &byte);
+    buffers::put_bytes(raw, (g.digits / 2) as usize, &byte);
 }
 
 fn digit(b: u8, g: Reached, raw: &mut [u8]) -> Reached {
@@ -221,7 +221,7 @@ fn from_text(name: &[u8], g: Reached, raw: &[u8]) -> Found {
 
 fn from_raw(s: &[u8], raw: &mut [u8]) -> Found {
     let f = of_size(s.len() as u64, raw);
-    numbers::put_bytes(raw, 0, part(s, 0, f.size));
+    buffers::put_bytes(raw, 0, part(s, 0, f.size));
     f
 }
 

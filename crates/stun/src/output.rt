@@ -36,7 +36,7 @@ pub fn flush(buf: &mut [u8; ROOM]) {
             buf[FAILED] = 1;
         }
     }
-    numbers::put_u32(buf, 0, 0);
+    buffers::put_u32(buf, 0, 0);
 }
 
 // Lets more wait; false where there is no room for it.
@@ -46,8 +46,8 @@ fn add(buf: &mut [u8; ROOM], s: &[u8]) -> bool {
     if 65536 < all {
         return false;
     }
-    numbers::put_bytes(buf, plus(FRONT, n), s);
-    numbers::put_u32(buf, 0, all as u32);
+    buffers::put_bytes(buf, plus(FRONT, n), s);
+    buffers::put_u32(buf, 0, all as u32);
     true
 }
 

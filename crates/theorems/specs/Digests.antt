@@ -3,7 +3,9 @@ use mathlib.Core.Path.{_≡_, refl}
 use mathlib.Core.List.{[], _∷_}
 use lib.ListN.{replicate}
 use Rattle.compression.specs.Compression.{mixOf, constantOf, nextWord, schedule, round, rounds, compress, blocks, run}
-use Rattle.sha1.specs.Sha1.{countOf, padding, finished, sha1, blockOf}
+use Rattle.blocks.specs.Block.{blockOf}
+use Rattle.endings.specs.Finished.{countOf, padding, finished}
+use Rattle.sha1.specs.Sha1.{sha1}
 use Rattle.hmac.specs.Hmac.{keyBlock, xored, hmacOf}
 
 -- no bytes

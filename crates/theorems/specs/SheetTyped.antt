@@ -5,7 +5,8 @@ use mathlib.Core.Path.{_≡_, refl}
 use lib.ListN.{replicate}
 use Rattle.base.specs.Laid.{laid}
 use Rattle.base.specs.Same.{same}
-use Rattle.numbers.specs.Numbers.{be16, two, fitsAt, put}
+use Rattle.numbers.specs.Numbers.{be16, two}
+use Rattle.buffers.specs.Put.{fitsAt, put}
 use Rattle.constants.specs.Cookie.{cookie, cookieAt}
 use Rattle.wire.specs.TypeNumber.{classOf, methodOf, classNumbered}
 use Rattle.wire.specs.declared.transaction_id.TransactionId.{TransactionId}

@@ -7,7 +7,8 @@ use borrow.Author.Tests.{eq-eqb, ne-eqb}
 use lib.ListN.{length, getD, take, drop, replicate, length-drop, drop-of-length-le, List·getD-eq-default}
 use lib.Seq.{take-all}
 use Rattle.base.specs.Laid.{laid}
-use Rattle.numbers.specs.Numbers.{be16, fitsAt, put}
+use Rattle.numbers.specs.Numbers.{be16}
+use Rattle.buffers.specs.Put.{fitsAt, put}
 use Rattle.wire.specs.declared.transaction_id.TransactionId.{TransactionId}
 use Rattle.net.specs.Net.{addrXor}
 use Rattle.net.specs.declared.Family.{Family}

@@ -4,7 +4,8 @@ use mathlib.Core.List.{List, []}
 use lib.ListN.{getD, drop, replicate}
 use lib.Dec.{eqb}
 use Rattle.base.specs.Choice.{pick}
-use Rattle.numbers.specs.Numbers.{be16, put}
+use Rattle.numbers.specs.Numbers.{be16}
+use Rattle.buffers.specs.Put.{put}
 use Rattle.wire.specs.declared.transaction_id.TransactionId.{TransactionId}
 use Rattle.net.specs.Net.{familyNumber, addrXor}
 use Rattle.net.specs.declared.Family.{Family}

@@ -7,7 +7,8 @@ use native.Mathlib.Omega.{arith}
 use borrow.Author.Tests.{le-leb}
 use lib.ListN.{length, getD, take, drop, replicate, length-take, take-append-drop, drop-of-length-le}
 use Rattle.base.specs.Laid.{laid-is}
-use Rattle.numbers.specs.Numbers.{be16, two, fitsAt, put}
+use Rattle.numbers.specs.Numbers.{be16, two}
+use Rattle.buffers.specs.Put.{fitsAt, put}
 use Rattle.constants.specs.Cookie.{cookie}
 use Rattle.wire.specs.declared.transaction_id.TransactionId.{TransactionId}
 use Rattle.net.specs.Net.{familyNumber, ipSize, xored, addrXor}

@@ -65,7 +65,7 @@ fn ip_of(v: &[u8]) -> [u8; 16]
     if v.len() < 4 {
         return ip;
     }
-    numbers::put_bytes(&mut ip, 0, &v[4..]);
+    buffers::put_bytes(&mut ip, 0, &v[4..]);
     ip
 }
 

@@ -1,5 +1,4 @@
 pub mod Tails
 pub mod Rows
 pub mod Walk
-pub mod Count
 pub mod Determined

@@ -1,4 +1,4 @@
-// UTF-8 as RFC 3629 has it: whether bytes are text, and how many code points they have.
+// UTF-8 as RFC 3629 has it: whether bytes are text.
 ghost use mathlib.Core.Path.{_≡_};
 ghost use mathlib.Core.List.{[], _∷_};
 ghost use mathlib.Core.Bool.{_&&_};
@@ -7,7 +7,6 @@ ghost use lib.ListN.{length, getD};
 ghost use lib.Dec.{leb};
 ghost use Rattle.unicode.specs.Utf8.{_to_, UTF8-tail, isUtf8};
 ghost use Rattle.utf8.specs.Places.{widthAt, behindAt};
-ghost use Rattle.unicode.specs.Points.{starts, points};
 
 // Whether the byte at a place is one from `lo` to `hi`.
 fn right(s: &[u8], i: usize, lo: u8, hi: u8) -> bool
@@ -118,25 +117,4 @@ pub fn is_utf8(s: &[u8]) -> bool
         i += n;
     }
     true
-}
-
-// 1 where the byte at a place starts a code point, 0 where it is a UTF8-tail.
-fn starting(s: &[u8], i: usize) -> usize
-    requires { ⌜ i < length (now s) ⌝ }
-    ensures { λ r. ⌜ r ≡ starts (getD (now (s .entry)) i 0) ⌝ }
-{
-    if right(s, i, 0x80, 0xBF) { 0 } else { 1 }
-}
-
-// How many code points bytes that are UTF-8 have; of any others, how many bytes are no UTF8-tail.
-pub fn code_points(s: &[u8]) -> usize
-    ensures { λ r. ⌜ r ≡ points (now (s .entry)) ⌝ }
-{
-    let mut n = 0;
-    let mut i = 0;
-    while i < s.len() {
-        n += starting(s, i);
-        i += 1;
-    }
-    n
 }

@@ -26,7 +26,7 @@ fn numbered(name: &[u8], n: usize, d: [u8; 20]) {
 
 fn agree(name: &[u8], d: [u8; 20], s: &[u8]) {
     io::write_all(1, name);
-    if hmac::same_digest(d, s) {
+    if digests::same_digest(d, s) {
         io::write_all(1, b" yes\n");
     } else {
         io::write_all(1, b" no\n");
@@ -40,7 +40,7 @@ fn million() -> [u8; 20] {
     for _ in 0..15625usize {
         h = compression::absorb(h, &block);
     }
-    sha1::finish(h, 15625, b"")
+    endings::finish(h, 15625, b"")
 }
 
 // The bytes 0, 1, 2 and so on.

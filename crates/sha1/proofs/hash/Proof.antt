@@ -1,5 +1,5 @@
 use borrow.Author.Needs.{needs}
-use Rattle.sha1.proofs.Padded.{hashed}
+use Rattle.sha1.proofs.Whole.{hashed}
 use Rattle.sha1.proofs.hash.Statement.{statement}
 use Rattle.sha1.proofs.hash.Tie as tie
 

@@ -1,0 +1,10 @@
+-- The contract of the public call determines its result.
+use Prim.Native.Nat.{ℕ}
+use mathlib.Core.List.{List}
+use Rattle.base.specs.Determined.{Determines, by}
+use Rattle.blocks.specs.Block.{blockOf}
+use Rattle.blocks.proofs.block.Kinds as block
+use Rattle.blocks.proofs.block.Reads as block-reads
+
+pub block-determined : Determines block.ps block.r {I = List ℕ} {A = List ℕ} block-reads.Asked block-reads.Learnt (λ κs a. a .0 .now) (λ κs z e. z)
+block-determined = by block.ps block.r block-reads.Asked block-reads.Learnt _ _ blockOf (λ κs a y d i q. q)

@@ -1,0 +1,49 @@
+// What C calls: SHA-1, HMAC, and digests compared. Each is the library's call under a plain name.
+ghost use mathlib.Core.Path.{_≡_};
+ghost use lib.ListN.{take};
+ghost use Rattle.base.specs.Same.{same};
+ghost use Rattle.sha1.specs.Sha1.{sha1};
+ghost use Rattle.hmac.specs.Hmac.{hmacOf};
+ghost use Rattle.numbers.specs.Numbers.{withLength};
+
+#[repr(C)]
+pub struct Digest {
+    pub bytes: [u8; 20],
+}
+
+#[no_mangle]
+pub extern "C" fn cratehoist_sha1(bytes: &[u8]) -> Digest
+    ensures { λ r. ⌜ r .bytes ≡ sha1 (now (bytes .entry)) ⌝ }
+{
+    let digest = sha1::hash(bytes);
+    Digest { bytes: digest }
+}
+
+#[no_mangle]
+pub extern "C" fn cratehoist_hmac(key: &[u8], bytes: &[u8]) -> Digest
+    ensures { λ r. ⌜ r .bytes ≡ hmacOf (now (key .entry)) (now (bytes .entry)) ⌝ }
+{
+    let digest = hmac::hmac(key, bytes);
+    Digest { bytes: digest }
+}
+
+#[no_mangle]
+pub extern "C" fn cratehoist_hmac_front(
+    key: &[u8],
+    datagram: &[u8],
+    place: usize,
+    length: u16,
+) -> Digest
+    ensures { λ r. ⌜ r .bytes ≡ hmacOf (now (key .entry)) (withLength (take place (now (datagram .entry))) length) ⌝ }
+{
+    let digest = hmac::hmac_front(key, datagram, place, length);
+    Digest { bytes: digest }
+}
+
+#[no_mangle]
+pub extern "C" fn cratehoist_same_digest(digest: Digest, bytes: &[u8]) -> bool
+    ensures { λ r. ⌜ r ≡ same (digest .bytes) (now (bytes .entry)) ⌝ }
+{
+    let own = digest.bytes;
+    digests::same_digest(own, bytes)
+}
