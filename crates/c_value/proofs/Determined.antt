@@ -5,6 +5,7 @@ use mathlib.Core.Bool.{Bool}
 use Rattle.base.specs.Determined.{Determines, by}
 use Rattle.rfc5389.specs.Rows.{rfc5389}
 use Rattle.value.specs.First.{firstIn, first, placed, isThere}
+use Rattle.integrity.specs.Integrity.{integrityFault}
 use Rattle.c_value.specs.Said.{found, valueIn, realmIn}
 use Rattle.c_value.specs.declared.First.{First}
 use Rattle.c_value.specs.declared.Part.{Part}
@@ -18,6 +19,8 @@ use Rattle.c_value.proofs.cratehoist_first_value.Kinds as first-value-k
 use Rattle.c_value.proofs.cratehoist_first_value.Reads as first-value-reads
 use Rattle.c_value.proofs.cratehoist_realm.Kinds as realm-kinds
 use Rattle.c_value.proofs.cratehoist_realm.Reads as realm-reads
+use Rattle.c_value.proofs.cratehoist_check_integrity.Kinds as check-integrity-kinds
+use Rattle.c_value.proofs.cratehoist_check_integrity.Reads as check-integrity-reads
 
 pub determined-search : Determines search-kinds.ps search-kinds.r {I = List ℕ × ℕ} {A = First} search-reads.Asked search-reads.Learnt
     (λ κs a. (a .0 .now, a .1 .0)) (λ κs z e. z)
@@ -52,4 +55,11 @@ pub determined-realm : Determines realm-kinds.ps realm-kinds.r {I = List ℕ × 
 determined-realm =
     by realm-kinds.ps realm-kinds.r realm-reads.Asked realm-reads.Learnt _ _
     (λ x. realmIn (x .0) (x .1))
+    (λ κs a y d i q. q)
+
+pub determined-check-integrity : Determines check-integrity-kinds.ps check-integrity-kinds.r {I = List ℕ × List ℕ} {A = ℕ} check-integrity-reads.Asked check-integrity-reads.Learnt
+    (λ κs a. (a .0 .now, a .1 .0 .now)) (λ κs z e. z)
+determined-check-integrity =
+    by check-integrity-kinds.ps check-integrity-kinds.r check-integrity-reads.Asked check-integrity-reads.Learnt _ _
+    (λ x. integrityFault rfc5389 (x .0) (x .1))
     (λ κs a y d i q. q)

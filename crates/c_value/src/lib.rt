@@ -1,8 +1,9 @@
-// What C calls: the first attribute of a type, and the realm to use.
+// What C calls: the first attribute of a type, the realm to use, and the check of MESSAGE-INTEGRITY.
 // A part is told by where it starts in the lent bytes, and its size.
 ghost use mathlib.Core.Path.{_≡_};
 ghost use Rattle.rfc5389.specs.Rows.{rfc5389};
 ghost use Rattle.value.specs.First.{firstIn, first, placed, isThere};
+ghost use Rattle.integrity.specs.Integrity.{integrityFault};
 ghost use Rattle.c_value.specs.Said.{found, valueIn, realmIn};
 // Where the first attribute of a type starts, and the size of its value.
 #[repr(C)]
@@ -100,4 +101,11 @@ pub extern "C" fn cratehoist_realm(datagram: &[u8], configured: &[u8]) -> Part
             size: configured.len(),
         },
     }
+}
+
+#[no_mangle]
+pub extern "C" fn cratehoist_check_integrity(datagram: &[u8], key: &[u8]) -> u8
+    ensures { λ r. ⌜ r ≡ integrityFault rfc5389 (now (datagram .entry)) (now (key .entry)) ⌝ }
+{
+    integrity::check_integrity(datagram, key)
 }
