@@ -5,10 +5,12 @@ use mathlib.Core.Path.{ap₂}
 use Rattle.base.specs.Determined.{Determines, by}
 use Rattle.header.specs.Header.{frontOf}
 use Rattle.net.specs.declared.SocketAddr.{SocketAddr}
+use Rattle.begin.specs.SaidLaws.{written-one}
 use Rattle.begin.specs.declared.Written.{Written}
 use Rattle.append.specs.Append.{answer, appended}
 use Rattle.append_typed.specs.Typed.{typed}
-use Rattle.addresses.specs.Address.{addressNumber, addressValue, given}
+use Rattle.net.specs.Net.{addressValue}
+use Rattle.addresses.specs.Address.{addressNumber, given}
 use Rattle.addresses.specs.declared.AddressKind.{AddressKind}
 use Rattle.addresses.proofs.AddressKind.as_u16.Kinds as as-u16
 use Rattle.addresses.proofs.AddressKind.as_u16.Reads as as-u16-reads
@@ -27,4 +29,4 @@ pub determined-append-address : Determines append-address.ps append-address.r {I
 determined-append-address =
     by append-address.ps append-address.r append-address-reads.Asked append-address-reads.Learnt _ _
     (λ x. (answer (x .0) 0 (typed (addressNumber (x .1)) (addressValue (given (x .1) (x .2) (frontOf (x .0) .id)))), appended (x .0) 0 (typed (addressNumber (x .1)) (addressValue (given (x .1) (x .2) (frontOf (x .0) .id))))))
-    (λ κs a y d i q. ap₂ (λ (u : Written) (v : List ℕ). (u, v)) (q .0) (q .1))
+    (λ κs a y d i q. ap₂ (λ (u : Written) (v : List ℕ). (u, v)) (written-one (q .0)) (q .1))

@@ -11,14 +11,14 @@ use Rattle.buffers.specs.PutLaws.{put-laid, put-behind}
 use Rattle.wire.specs.declared.transaction_id.TransactionId.{TransactionId}
 use Rattle.header.specs.Header.{frontOf}
 use Rattle.header.specs.declared.Header.{Header}
-use Rattle.net.specs.Net.{familyNumber, ipSize, addrXor}
+use Rattle.net.specs.Net.{familyNumber, ipSize, addrXor, addressValue}
 use Rattle.net.specs.declared.Family.{Family}
 use Rattle.net.specs.declared.Family.the-variants.{Ipv4, Ipv6}
 use Rattle.net.specs.declared.SocketAddr.{SocketAddr}
 use Rattle.begin.specs.declared.Written.{Written}
 use Rattle.append.specs.Append.{answer, appended}
 use Rattle.append_typed.specs.Typed.{typed}
-use Rattle.addresses.specs.Address.{addressNumber, addressValue, given}
+use Rattle.addresses.specs.Address.{addressNumber, given}
 use Rattle.addresses.specs.declared.AddressKind.{AddressKind}
 use Rattle.addresses.specs.declared.AddressKind.the-variants.{MappedAddress, XorMappedAddress, AlternateServer}
 

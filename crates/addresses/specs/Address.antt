@@ -1,10 +1,7 @@
--- The values of the address kinds (RFC 5389 sections 15.1 and 15.2; docs/SCOPE.md, "Addresses").
+-- The address kinds (RFC 5389 sections 15.1 and 15.2; docs/SCOPE.md, "Addresses").
 use Prim.Native.Nat.{ℕ}
-use mathlib.Core.List.{List, _∷_, _++_}
-use lib.ListN.{take}
-use Rattle.numbers.specs.Numbers.{two}
 use Rattle.wire.specs.declared.transaction_id.TransactionId.{TransactionId}
-use Rattle.net.specs.Net.{familyNumber, ipSize, addrXor}
+use Rattle.net.specs.Net.{addrXor}
 use Rattle.net.specs.declared.SocketAddr.{SocketAddr}
 use Rattle.addresses.specs.declared.AddressKind.{AddressKind}
 use Rattle.addresses.specs.declared.AddressKind.the-variants.{MappedAddress, XorMappedAddress, AlternateServer}
@@ -19,7 +16,3 @@ unfoldable pub given : AddressKind → SocketAddr → TransactionId → SocketAd
 given MappedAddress a id = a
 given XorMappedAddress a id = addrXor a id
 given AlternateServer a id = a
-
--- nought, the family, the port, as many IP bytes as the family has
-unfoldable pub addressValue : SocketAddr → List ℕ
-addressValue a = 0 ∷ familyNumber (a .family) ∷ two (a .port) ++ take (ipSize (a .family)) (a .ip)

@@ -3,10 +3,11 @@ ghost use mathlib.Core.Path.{_≡_};
 ghost use mathlib.Core.List.{_∷_, _++_};
 ghost use Rattle.numbers.specs.Numbers.{two};
 ghost use Rattle.header.specs.Header.{frontOf};
-ghost use Rattle.net.specs.Net.{familyNumber};
+ghost use Rattle.net.specs.Net.{familyNumber, addressValue};
+ghost use Rattle.begin.specs.Begin.{writtenSaid};
 ghost use Rattle.append.specs.Append.{answer, appended};
 ghost use Rattle.append_typed.specs.Typed.{typed};
-ghost use Rattle.addresses.specs.Address.{addressNumber, addressValue, given};
+ghost use Rattle.addresses.specs.Address.{addressNumber, given};
 use append_typed::append_value;
 use begin::Written;
 use buffers::put_bytes;
@@ -68,7 +69,7 @@ fn form_bytes(kind: AddressKind, addr: SocketAddr, id: TransactionId) -> [u8; 20
 
 // Appends MAPPED-ADDRESS, XOR-MAPPED-ADDRESS or ALTERNATE-SERVER. The address is given plain; the XOR form takes the ID of the message at the front.
 pub fn append_address(buf: &mut [u8], kind: AddressKind, addr: SocketAddr) -> Written
-    ensures { λ r. ⌜ (r ≡ answer (now (buf .entry)) 0 (typed (addressNumber kind) (addressValue (given kind addr (frontOf (now (buf .entry)) .id)))))
+    ensures { λ r. ⌜ (writtenSaid r ≡ writtenSaid (answer (now (buf .entry)) 0 (typed (addressNumber kind) (addressValue (given kind addr (frontOf (now (buf .entry)) .id))))))
         × (now (buf .exit) ≡ appended (now (buf .entry)) 0 (typed (addressNumber kind) (addressValue (given kind addr (frontOf (now (buf .entry)) .id))))) ⌝ }
 {
     let h = header::front_of(buf);

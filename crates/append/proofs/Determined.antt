@@ -3,6 +3,7 @@ use Prim.Native.Nat.{ℕ}
 use mathlib.Core.List.{List}
 use mathlib.Core.Path.{ap₂}
 use Rattle.base.specs.Determined.{Determines, by}
+use Rattle.begin.specs.SaidLaws.{written-one}
 use Rattle.begin.specs.declared.Written.{Written}
 use Rattle.append.specs.Append.{attr, answer, appended}
 use Rattle.append.proofs.append_unless.Kinds as append-unless
@@ -15,11 +16,11 @@ pub determined-append-unless : Determines append-unless.ps append-unless.r {I = 
 determined-append-unless =
     by append-unless.ps append-unless.r append-unless-reads.Asked append-unless-reads.Learnt _ _
     (λ x. (answer (x .0) (x .1) (attr (x .2) (x .3) (x .4)), appended (x .0) (x .1) (attr (x .2) (x .3) (x .4))))
-    (λ κs a y d i q. ap₂ (λ (u : Written) (v : List ℕ). (u, v)) (q .0) (q .1))
+    (λ κs a y d i q. ap₂ (λ (u : Written) (v : List ℕ). (u, v)) (written-one (q .0)) (q .1))
 
 pub determined-append-raw : Determines append-raw.ps append-raw.r {I = List ℕ × ℕ × List ℕ × List ℕ} {A = Written × List ℕ} append-raw-reads.Asked append-raw-reads.Learnt
     (λ κs a. (a .0 .now, a .1 .0, a .1 .1 .0 .now, a .1 .1 .1 .0 .now)) (λ κs z e. (z, e .0 .now))
 determined-append-raw =
     by append-raw.ps append-raw.r append-raw-reads.Asked append-raw-reads.Learnt _ _
     (λ x. (answer (x .0) 0 (attr (x .1) (x .2) (x .3)), appended (x .0) 0 (attr (x .1) (x .2) (x .3))))
-    (λ κs a y d i q. ap₂ (λ (u : Written) (v : List ℕ). (u, v)) (q .0) (q .1))
+    (λ κs a y d i q. ap₂ (λ (u : Written) (v : List ℕ). (u, v)) (written-one (q .0)) (q .1))

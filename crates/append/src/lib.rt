@@ -4,6 +4,7 @@ ghost use Prim.Native.Nat.{_+_, _≤_, _<_};
 ghost use lib.ListN.{length};
 ghost use Rattle.base.specs.Laid.{laid};
 ghost use Rattle.attribute.specs.Attribute.{bytesOf};
+ghost use Rattle.begin.specs.Begin.{writtenSaid};
 ghost use Rattle.append.specs.Append.{attr, answer, appended};
 use begin::Written;
 use buffers::put_bytes;
@@ -23,7 +24,7 @@ fn put_attr(buf: &mut [u8], at: usize, kind: u16, value: &[u8], pad: &[u8])
 
 // Appends, unless `wrong` is a number by which the caller refuses the value; 21 goes before it, and 24, 25 and 26 behind.
 pub fn append_unless(buf: &mut [u8], wrong: u8, kind: u16, value: &[u8], pad: &[u8]) -> Written
-    ensures { λ r. ⌜ (r ≡ answer (now (buf .entry)) wrong (attr kind (now (value .entry)) (now (pad .entry))))
+    ensures { λ r. ⌜ (writtenSaid r ≡ writtenSaid (answer (now (buf .entry)) wrong (attr kind (now (value .entry)) (now (pad .entry)))))
         × (now (buf .exit) ≡ appended (now (buf .entry)) wrong (attr kind (now (value .entry)) (now (pad .entry)))) ⌝ }
 {
     let p = plan::plan_for(buf, wrong, value.len(), pad.len());
@@ -39,7 +40,7 @@ pub fn append_unless(buf: &mut [u8], wrong: u8, kind: u16, value: &[u8], pad: &[
 
 // Appends an attribute of any type, with its value and padding as they are given.
 pub fn append_raw(buf: &mut [u8], kind: u16, value: &[u8], pad: &[u8]) -> Written
-    ensures { λ r. ⌜ (r ≡ answer (now (buf .entry)) 0 (attr kind (now (value .entry)) (now (pad .entry))))
+    ensures { λ r. ⌜ (writtenSaid r ≡ writtenSaid (answer (now (buf .entry)) 0 (attr kind (now (value .entry)) (now (pad .entry)))))
         × (now (buf .exit) ≡ appended (now (buf .entry)) 0 (attr kind (now (value .entry)) (now (pad .entry)))) ⌝ }
 {
     append_unless(buf, 0, kind, value, pad)

@@ -4,6 +4,7 @@ use mathlib.Core.List.{List}
 use mathlib.Core.Path.{ap₂}
 use Rattle.base.specs.Determined.{Determines, by}
 use Rattle.rfc5389.specs.Rows.{rfc5389}
+use Rattle.begin.specs.SaidLaws.{written-one}
 use Rattle.begin.specs.declared.Written.{Written}
 use Rattle.append.specs.Append.{answer, appended}
 use Rattle.append_typed.specs.Typed.{textNumber, typed, refusal}
@@ -38,18 +39,18 @@ pub determined-append-value : Determines append-value.ps append-value.r {I = Lis
 determined-append-value =
     by append-value.ps append-value.r append-value-reads.Asked append-value-reads.Learnt _ _
     (λ x. (answer (x .0) (x .1) (typed (x .2) (x .3)), appended (x .0) (x .1) (typed (x .2) (x .3))))
-    (λ κs a y d i q. ap₂ (λ (u : Written) (v : List ℕ). (u, v)) (q .0) (q .1))
+    (λ κs a y d i q. ap₂ (λ (u : Written) (v : List ℕ). (u, v)) (written-one (q .0)) (q .1))
 
 pub determined-append-text : Determines append-text.ps append-text.r {I = List ℕ × TextKind × List ℕ} {A = Written × List ℕ} append-text-reads.Asked append-text-reads.Learnt
     (λ κs a. (a .0 .now, a .1 .0, a .1 .1 .0 .now)) (λ κs z e. (z, e .0 .now))
 determined-append-text =
     by append-text.ps append-text.r append-text-reads.Asked append-text-reads.Learnt _ _
     (λ x. (answer (x .0) (refusal rfc5389 (textNumber (x .1)) (x .2)) (typed (textNumber (x .1)) (x .2)), appended (x .0) (refusal rfc5389 (textNumber (x .1)) (x .2)) (typed (textNumber (x .1)) (x .2))))
-    (λ κs a y d i q. ap₂ (λ (u : Written) (v : List ℕ). (u, v)) (q .0) (q .1))
+    (λ κs a y d i q. ap₂ (λ (u : Written) (v : List ℕ). (u, v)) (written-one (q .0)) (q .1))
 
 pub determined-append-unknown : Determines append-unknown.ps append-unknown.r {I = List ℕ × List ℕ} {A = Written × List ℕ} append-unknown-reads.Asked append-unknown-reads.Learnt
     (λ κs a. (a .0 .now, a .1 .0 .now)) (λ κs z e. (z, e .0 .now))
 determined-append-unknown =
     by append-unknown.ps append-unknown.r append-unknown-reads.Asked append-unknown-reads.Learnt _ _
     (λ x. (answer (x .0) (refusal rfc5389 0x000A (x .1)) (typed 0x000A (x .1)), appended (x .0) (refusal rfc5389 0x000A (x .1)) (typed 0x000A (x .1))))
-    (λ κs a y d i q. ap₂ (λ (u : Written) (v : List ℕ). (u, v)) (q .0) (q .1))
+    (λ κs a y d i q. ap₂ (λ (u : Written) (v : List ℕ). (u, v)) (written-one (q .0)) (q .1))

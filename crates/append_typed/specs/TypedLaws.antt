@@ -1,4 +1,4 @@
--- A value that was appended by a typed call has none of the faults 11 to 14.
+-- A value that is not refused has none of the faults 11 to 14.
 use Prim.Native.Nat.{ℕ}
 use mathlib.Core.List.{List}
 use mathlib.Core.Bool.{Bool, true, false}
@@ -7,12 +7,8 @@ use native.Mathlib.Omega.{arith}
 use borrow.Author.Tests.{eqb-true}
 use lib.Dec.{eqb}
 use Rattle.base.specs.Choice.{pick}
-use Rattle.attribute.specs.Attribute.{Attr}
 use Rattle.rfc5389.specs.Fault.{fault}
 use Rattle.rfc5389.specs.declared.Row.{Row}
-use Rattle.begin.specs.declared.Written.the-variants.{Total}
-use Rattle.append.specs.Append.{answer}
-use Rattle.append.specs.AppendLaws.{total-goes}
 use Rattle.append_typed.specs.Typed.{refusal}
 
 pub no-fault : (rows : List Row) (k : ℕ) (v : List ℕ) → refusal rows k v ≡ 0 → fault rows k v ≡ 0
@@ -22,6 +18,3 @@ no-fault rows k v e = go (eqb (fault rows k v) 0) refl e
     go : (b : Bool) → eqb (fault rows k v) 0 ≡ b → _≡_ {A = ℕ} (pick b 0 23) 0 → fault rows k v ≡ 0
     go true p f = eqb-true (fault rows k v) 0 p
     go false p f = absurd (omega arith)
-
-pub typed-passes : (rows : List Row) (d : List ℕ) (k : ℕ) (v : List ℕ) (a : Attr) {t : ℕ} → answer d (refusal rows k v) a ≡ Total t → fault rows k v ≡ 0
-typed-passes rows d k v a e = no-fault rows k v (total-goes d (refusal rows k v) a e .2 .right)

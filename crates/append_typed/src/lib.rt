@@ -1,6 +1,7 @@
 // Typed append: a value that is judged by its type's rules, with padding of zeros.
 ghost use mathlib.Core.Path.{_≡_};
 ghost use Rattle.rfc5389.specs.Rows.{rfc5389};
+ghost use Rattle.begin.specs.Begin.{writtenSaid};
 ghost use Rattle.append.specs.Append.{answer, appended};
 ghost use Rattle.append_typed.specs.Typed.{typed, refusal, textNumber};
 use append::append_unless;
@@ -39,7 +40,7 @@ pub fn refusal_of(kind: u16, value: &[u8]) -> u8
 
 // Appends a value with padding of zeros, unless `wrong` refuses it.
 pub fn append_value(buf: &mut [u8], wrong: u8, kind: u16, value: &[u8]) -> Written
-    ensures { λ r. ⌜ (r ≡ answer (now (buf .entry)) wrong (typed kind (now (value .entry))))
+    ensures { λ r. ⌜ (writtenSaid r ≡ writtenSaid (answer (now (buf .entry)) wrong (typed kind (now (value .entry)))))
         × (now (buf .exit) ≡ appended (now (buf .entry)) wrong (typed kind (now (value .entry)))) ⌝ }
 {
     let zeros = [0u8; 3];
@@ -49,7 +50,7 @@ pub fn append_value(buf: &mut [u8], wrong: u8, kind: u16, value: &[u8]) -> Writt
 
 // Appends USERNAME, REALM, NONCE or SOFTWARE.
 pub fn append_text(buf: &mut [u8], kind: TextKind, text: &[u8]) -> Written
-    ensures { λ r. ⌜ (r ≡ answer (now (buf .entry)) (refusal rfc5389 (textNumber kind) (now (text .entry))) (typed (textNumber kind) (now (text .entry))))
+    ensures { λ r. ⌜ (writtenSaid r ≡ writtenSaid (answer (now (buf .entry)) (refusal rfc5389 (textNumber kind) (now (text .entry))) (typed (textNumber kind) (now (text .entry)))))
         × (now (buf .exit) ≡ appended (now (buf .entry)) (refusal rfc5389 (textNumber kind) (now (text .entry))) (typed (textNumber kind) (now (text .entry)))) ⌝ }
 {
     let k = kind.as_u16();
@@ -59,7 +60,7 @@ pub fn append_text(buf: &mut [u8], kind: TextKind, text: &[u8]) -> Written
 
 // Appends UNKNOWN-ATTRIBUTES: the types as they stand in a value, each two bytes, the first the higher.
 pub fn append_unknown_attributes(buf: &mut [u8], types: &[u8]) -> Written
-    ensures { λ r. ⌜ (r ≡ answer (now (buf .entry)) (refusal rfc5389 0x000A (now (types .entry))) (typed 0x000A (now (types .entry))))
+    ensures { λ r. ⌜ (writtenSaid r ≡ writtenSaid (answer (now (buf .entry)) (refusal rfc5389 0x000A (now (types .entry))) (typed 0x000A (now (types .entry)))))
         × (now (buf .exit) ≡ appended (now (buf .entry)) (refusal rfc5389 0x000A (now (types .entry))) (typed 0x000A (now (types .entry)))) ⌝ }
 {
     let wrong = refusal_of(0x000A, types);

@@ -10,7 +10,7 @@ use Rattle.numbers.specs.Numbers.{be16}
 use Rattle.wire.specs.declared.method.Method.{Method}
 use Rattle.wire.specs.declared.types.MessageClass.{MessageClass}
 use Rattle.header.specs.Header.{headerFault, headerOf}
-use Rattle.header.specs.HeaderLaws.{said, refused}
+use Rattle.header.specs.HeaderLaws.{good-head, refused}
 use Rattle.header.specs.declared.Header.{Header}
 use Rattle.header.specs.declared.Head.the-variants.{Good, Refused}
 use Rattle.attribute.specs.Attribute.{padded}
@@ -36,7 +36,7 @@ module _ (d : List ℕ) (p : ℕ) {h : Header} (e : h ≡ headerOf d) where
 
   module _ {c : MessageClass} {m : Method} {b : ℕ} (f : h .head ≡ Good c m b) where
     good : headerFault d ≡ 0
-    good = said d (sym (ap (λ (x : Header). x .head) e) ∙ f) .fault
+    good = good-head d (sym (ap (λ (x : Header). x .head) e) ∙ f) .fault
 
     pub walk-header : p < 20 → Cut p ≡ walkAt d p
     unfolding walkAt

@@ -10,7 +10,7 @@ use Rattle.numbers.specs.Numbers.{be16}
 use Rattle.numbers.specs.NumbersLaws.{four-at}
 use Rattle.attribute.specs.Attribute.{padded, Attr, Body, stop, more, attrOf, parse}
 use Rattle.attribute.specs.Walk.{stepAt}
-use Rattle.attribute.specs.WalkLaws.{At, beyond, ended, short, long, attribute, view, seen}
+use Rattle.attribute.specs.WalkLaws.{At, beyond, ended, short, long, attribute, Stops, view, seen}
 use Rattle.attribute.specs.declared.Walk.{Walk}
 use Rattle.attribute.specs.declared.Walk.the-variants.{Attribute, End, Cut}
 
@@ -65,3 +65,13 @@ unroll {d} {p} (attribute h) =
 -- the law that every loop over attributes uses
 pub body-seen : (d : List ℕ) (p : ℕ) {w : Walk} → w ≡ stepAt d p → parse 0 (drop p d) ≡ bodyOf d w
 body-seen d p e = unroll (seen e)
+
+-- where the walk stops, what is left is no attribute
+stop-left : {d : List ℕ} {p : ℕ} {w : Walk} → At d p w → Stops w → parse 0 (drop p d) ≡ stop (drop p d)
+stop-left {d} {p} (beyond h) s = let e : drop p d ≡ [] = drop-of-length-le d {i = p} (omega arith) in rw e parse-none
+stop-left {d} {p} (ended h) s = let e : drop p d ≡ [] = drop-of-length-le d {i = p} (omega arith) in rw e parse-none
+stop-left (short h l) s = unroll (short h l)
+stop-left (long h l) s = unroll (long h l)
+
+pub stopped : (d : List ℕ) (p : ℕ) {w : Walk} → Stops w → w ≡ stepAt d p → parse 0 (drop p d) ≡ stop (drop p d)
+stopped d p s e = stop-left (seen e) s

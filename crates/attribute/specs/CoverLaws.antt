@@ -1,22 +1,22 @@
 -- The attributes of a body cover it, and the walk visits just those.
 use Prim.Native.Nat.{ℕ, zero, suc, _+_, _-_, _*_, _≤_, _<_}
-use mathlib.Core.List.{List, [], _∷_}
+use mathlib.Core.List.{List, [], _∷_, _++_}
 use mathlib.Core.Path.{_≡_, refl, sym, ap, ap₂, _∙_, subst}
 use native.Mathlib.Omega.{arith}
 use native.Mathlib.Decide.{decLt}
 use borrow.Author.Tests.{eq-eqb, le-ltb, le-leb, lt-leb}
-use lib.ListN.{length, take, drop, length-drop}
+use lib.ListN.{length, take, drop, length-append, length-drop}
 use lib.Seq.{length-take-le}
 use lib.Dec.{leb}
 use Rattle.base.specs.Choice.{pick}
 use Rattle.numbers.specs.Numbers.{be16}
 use Rattle.header.specs.Header.{headerFault}
 use Rattle.header.specs.HeaderLaws as header
-use Rattle.attribute.specs.Attribute.{padded, Attr, Body, stop, more, attrs, rest, attrOf, parse}
+use Rattle.attribute.specs.Attribute.{padded, Attr, Body, stop, more, attrs, rest, attrOf, parse, bytesOf, allBytes}
 use Rattle.attribute.specs.Walk.{stepAt, walkAt}
-use Rattle.attribute.specs.WalkLaws.{At, beyond, ended, short, long, attribute, view, at-step}
+use Rattle.attribute.specs.WalkLaws.{At, beyond, ended, short, long, attribute, view, at-step, ahead}
 use Rattle.attribute.specs.BodyLaws.{bodyOf, unroll}
-use Rattle.attribute.specs.ScanLaws.{found}
+use Rattle.attribute.specs.ScanLaws.{found, found-length}
 use Rattle.attribute.specs.declared.Walk.{Walk}
 use Rattle.attribute.specs.declared.Walk.the-variants.{Attribute, End}
 
@@ -51,10 +51,22 @@ pub sizes-least : (xs : List Attr) → 4 * length xs ≤ sizes xs
 sizes-least [] = omega arith
 sizes-least (a ∷ xs) = omega (arith, sizes-least xs)
 
--- following the walk from p to the end meets the attributes xs, in order
-pub data Visits (d : List ℕ) : ℕ → List Attr → Type 0 where
+-- following the walk from p to the end meets the attributes xs, each at its place, in order
+pub data Visits (d : List ℕ) : ℕ → List (ℕ × Attr) → Type 0 where
   over : {p : ℕ} → walkAt d p ≡ End p → Visits d p []
-  meets : {p k v n x : ℕ} {xs : List Attr} → walkAt d p ≡ Attribute p k v n x → Visits d x xs → Visits d p (found d k v n x ∷ xs)
+  meets : {p k v n x : ℕ} {xs : List (ℕ × Attr)} → walkAt d p ≡ Attribute p k v n x → Visits d x xs → Visits d p ((p, found d k v n x) ∷ xs)
+
+-- attributes one behind the other, the first at p
+abbrev pub placed : ℕ → List Attr → List (ℕ × Attr)
+placed p [] = []
+placed p (a ∷ xs) = (p, a) ∷ placed (p + length (bytesOf a)) xs
+
+pub placed-one : (p : ℕ) (xs : List Attr) (a : Attr) → placed p (xs ++ (a ∷ [])) ≡ placed p xs ++ ((p + length (allBytes xs), a) ∷ [])
+placed-one p [] a = let e : p ≡ p + 0 = omega arith in ap (λ (q : ℕ). (q, a) ∷ []) e
+placed-one p (b ∷ xs) a =
+    let e : p + length (bytesOf b) + length (allBytes xs) ≡ p + length (bytesOf b ++ allBytes xs) = simp length-append (omega arith) in
+    ap (λ (s : List (ℕ × Attr)). (p, b) ∷ s)
+    (placed-one (p + length (bytesOf b)) xs a ∙ ap (λ (q : ℕ). placed (p + length (bytesOf b)) xs ++ ((q, a) ∷ [])) e)
 
 module _ (d : List ℕ) (e : headerFault d ≡ 0) where
   pub walk-is-step : (p : ℕ) → 20 ≤ p → walkAt d p ≡ stepAt d p
@@ -71,7 +83,7 @@ module _ (d : List ℕ) (e : headerFault d ≡ 0) where
 
   -- there is an attribute: the walk is at it, and goes on to the others
   at-attribute : (p : ℕ) (a : Attr) (b : Body) {w : Walk} → At d p w → 20 ≤ p → bodyOf d w ≡ more a b
-      → ((x : ℕ) → 20 ≤ x → x ≤ length d → parse 0 (drop x d) ≡ b → Visits d x (attrs b)) → Visits d p (a ∷ attrs b)
+      → ((x : ℕ) → 20 ≤ x → x ≤ length d → parse 0 (drop x d) ≡ b → Visits d x (placed x (attrs b))) → Visits d p (placed p (a ∷ attrs b))
   at-attribute p a b (beyond h) i f on = let z : _≡_ {A = ℕ} 0 1 = cc in absurd (omega arith)
   at-attribute p a b (ended h) i f on = let z : _≡_ {A = ℕ} 0 1 = cc in absurd (omega arith)
   at-attribute p a b (short h k) i f on = let z : _≡_ {A = ℕ} 0 1 = cc in absurd (omega arith)
@@ -81,22 +93,25 @@ module _ (d : List ℕ) (e : headerFault d ≡ 0) where
       let x : ℕ = p + 4 + padded n in
       let q : parse 0 (drop x d) ≡ b = cc in
       let y : found d (be16 d p) (p + 4) n x ≡ a = cc in
-      rw y at (meets (walk-is-step p i ∙ sym (at-step (attribute h))) (on x (omega arith) h q))
+      let z : x ≡ p + length (bytesOf a) = sym (found-length (be16 d p) (ahead (attribute h))) ∙ ap (λ (c : Attr). p + length (bytesOf c)) y in
+      subst (λ (c : Attr). Visits d p ((p, c) ∷ placed (p + length (bytesOf a)) (attrs b))) y
+      (meets (walk-is-step p i ∙ sym (at-step (attribute h)))
+      (subst (λ (u : ℕ). Visits d x (placed u (attrs b))) z (on x (omega arith) h q)))
 
-  from-place : (p : ℕ) (b : Body) → 20 ≤ p → p ≤ length d → parse 0 (drop p d) ≡ b → rest b ≡ [] → Visits d p (attrs b)
+  from-place : (p : ℕ) (b : Body) → 20 ≤ p → p ≤ length d → parse 0 (drop p d) ≡ b → rest b ≡ [] → Visits d p (placed p (attrs b))
   from-place p (stop r) i l f g = at-end p r (view d p) i l (sym (unroll (view d p)) ∙ f) g
   from-place p (more a b) i l f g =
       at-attribute p a b (view d p) i (sym (unroll (view d p)) ∙ f) (λ x j m q. from-place x b j m q g)
 
-  pub visits : rest (parse 0 (drop 20 d)) ≡ [] → Visits d 20 (attrs (parse 0 (drop 20 d)))
+  pub visits : rest (parse 0 (drop 20 d)) ≡ [] → Visits d 20 (placed 20 (attrs (parse 0 (drop 20 d))))
   visits g = from-place 20 (parse 0 (drop 20 d)) (omega arith) (header.long d e) refl g
 
 -- and no others
-pub visits-one : {d : List ℕ} {p : ℕ} {xs ys : List Attr} → Visits d p xs → Visits d p ys → xs ≡ ys
+pub visits-one : {d : List ℕ} {p : ℕ} {xs ys : List (ℕ × Attr)} → Visits d p xs → Visits d p ys → xs ≡ ys
 visits-one (over e) (over f) = refl
 visits-one (over e) (meets f w) = let z : _≡_ {A = ℕ} 0 1 = cc in absurd (omega arith)
 visits-one (meets e v) (over f) = let z : _≡_ {A = ℕ} 0 1 = cc in absurd (omega arith)
-visits-one {d} (meets {k = k} {v = u} {n = n} {x = x} e v) (meets {k = l} {v = t} {n = m} {x = y} {xs = zs} f w) =
+visits-one {d} {p} (meets {k = k} {v = u} {n = n} {x = x} e v) (meets {k = l} {v = t} {n = m} {x = y} {xs = zs} f w) =
     let i : y ≡ x = cc in
     let j : found d k u n x ≡ found d l t m y = cc in
-    ap₂ {C = List Attr} (λ a s. a ∷ s) j (visits-one v (subst (λ (z : ℕ). Visits d z zs) i w))
+    ap₂ {C = List (ℕ × Attr)} (λ a s. (p, a) ∷ s) j (visits-one v (subst (λ (z : ℕ). Visits d z zs) i w))

@@ -6,4 +6,5 @@ pub mod RoundTrip
 pub mod Scan
 pub mod ScanLaws
 pub mod PassLaws
+pub mod SaidLaws
 pub mod CoverLaws

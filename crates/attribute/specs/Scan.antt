@@ -4,9 +4,15 @@ use mathlib.Core.List.{List, [], _∷_}
 use lib.ListN.{length, drop}
 use lib.Dec.{eqb}
 use Rattle.base.specs.Choice.{pick}
+use Rattle.base.specs.Said.{Said, says}
 use Rattle.attribute.specs.Attribute.{Attr, Body, stop, more, bytesOf, parse}
 use Rattle.attribute.specs.declared.Scan.{Scan}
 use Rattle.attribute.specs.declared.Scan.the-variants.{Passed, Fault}
+
+-- what an answer says: passed, with the number of attributes, or the number of the first fault and its place
+unfoldable pub scanSaid : Scan → Said
+scanSaid (Passed n) = says 0 0 (n ∷ [])
+scanSaid (Fault r p) = says 1 r (p ∷ [])
 
 -- the body b starts at p, behind n attributes that passed; `fault` gives the number of an attribute at a place, 0 where it passes
 unfoldable pub scan : (ℕ → Attr → ℕ) → ℕ → ℕ → Body → Scan

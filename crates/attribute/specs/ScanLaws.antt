@@ -7,11 +7,11 @@ use borrow.Author.Tests.{eq-eqb, ne-eqb}
 use lib.ListN.{length, take, drop, length-append, length-take, length-drop}
 use Rattle.attribute.specs.Attribute.{padded, Attr, Body, stop, more, bytesOf, parse}
 use Rattle.attribute.specs.Walk.{stepAt}
-use Rattle.attribute.specs.WalkLaws.{Ahead, ahead, seen, cut-short}
-use Rattle.attribute.specs.BodyLaws.{body-seen}
+use Rattle.attribute.specs.WalkLaws.{ended, Ahead, ahead, Stops, seen}
+use Rattle.attribute.specs.BodyLaws.{unroll, body-seen, stopped}
 use Rattle.attribute.specs.Scan.{scan, scanned}
 use Rattle.attribute.specs.declared.Walk.{Walk}
-use Rattle.attribute.specs.declared.Walk.the-variants.{Attribute, End, Cut}
+use Rattle.attribute.specs.declared.Walk.the-variants.{Attribute}
 use Rattle.attribute.specs.declared.Scan.{Scan}
 use Rattle.attribute.specs.declared.Scan.the-variants.{Passed, Fault}
 
@@ -31,8 +31,8 @@ unfolding scanned
 start f d h = record { low = omega arith; inside = h; few = omega arith; same = refl }
 
 -- a found attribute has as many bytes as the walk goes on
-pub long : (k : ℕ) {d : List ℕ} {p q v n x : ℕ} → Ahead d p q v n x → p + length (bytesOf (found d k v n x)) ≡ x
-long k {d} {p} {q} {v} {n} {x} a =
+pub found-length : (k : ℕ) {d : List ℕ} {p q v n x : ℕ} → Ahead d p q v n x → p + length (bytesOf (found d k v n x)) ≡ x
+found-length k {d} {p} {q} {v} {n} {x} a =
     let i : length (take n (drop v d)) ≡ n = simp (length-take, length-drop) (omega (arith, a)) in
     let j : length (take (x - v - n) (drop (v + n) d)) ≡ x - v - n = simp (length-take, length-drop) (omega (arith, a)) in
     simp length-append (omega (arith, i, j, a))
@@ -58,7 +58,7 @@ module _ {f : ℕ → Attr → ℕ} {d : List ℕ} {at n q k v s x : ℕ} {t : S
     inside = inside .within;
     few = omega (arith, g .few, inside);
     same =
-        ap (λ (y : ℕ). scan f (n + 1) y (parse 0 (drop x d))) (sym (long k inside))
+        ap (λ (y : ℕ). scan f (n + 1) y (parse 0 (drop x d))) (sym (found-length k inside))
         ∙ sym (here ∙ simp (eq-eqb (f at (found d k v s x)) 0 z)) ∙ g .same;
   }
 
@@ -74,20 +74,18 @@ module _ {f : ℕ → Attr → ℕ} {d : List ℕ} {at n q k v s x : ℕ} {t : S
     pub decides : (r ≡ 0 → ⊥) → Fault r at ≡ t
     decides y = ap (λ (m : ℕ). Fault m at) z ∙ faulty (λ u. y (z ∙ u))
 
-pub passed : {f : ℕ → Attr → ℕ} {d : List ℕ} {at n q : ℕ} {t : Scan} {w : Walk}
-    → Scanning f d at n t → w ≡ End q → w ≡ stepAt d at → Passed n ≡ t
+-- where the walk stops: at the end all have passed, and before it 10 is found
+pub passed : {f : ℕ → Attr → ℕ} {d : List ℕ} {at n : ℕ} {t : Scan} → Scanning f d at n t → at ≡ length d → Passed n ≡ t
 unfolding scan
-passed {f} {d} {at} {n} g i e = sym (ap (scan f n at) (body-seen d at (sym i ∙ e))) ∙ g .same
+passed {f} {d} {at} {n} g e = sym (ap (scan f n at) (unroll (ended e))) ∙ g .same
 
 cut-scan : (f : ℕ → Attr → ℕ) (n p : ℕ) (r : List ℕ) → 0 < length r → scan f n p (stop r) ≡ Fault 10 p
 unfolding scan
 cut-scan f n p [] h = absurd (omega arith)
 cut-scan f n p (b ∷ r) h = refl
 
-pub cut : {f : ℕ → Attr → ℕ} {d : List ℕ} {at n q : ℕ} {t : Scan} {w : Walk}
-    → Scanning f d at n t → w ≡ Cut q → w ≡ stepAt d at → Fault 10 q ≡ t
-cut {f} {d} {at} {n} {q} g i e =
-    let s : (q ≡ at) × (at < length d) = cut-short (seen (sym i ∙ e)) (g .inside) in
-    let b : scan f n at (parse 0 (drop at d)) ≡ scan f n at (stop (drop q d)) = ap (scan f n at) (body-seen d at (sym i ∙ e)) in
-    let c : scan f n at (stop (drop q d)) ≡ Fault 10 at = cut-scan f n at (drop q d) (simp length-drop (omega arith)) in
-    ap (λ (y : ℕ). Fault 10 y) (s .0) ∙ sym (b ∙ c) ∙ g .same
+pub cut : {f : ℕ → Attr → ℕ} {d : List ℕ} {at n : ℕ} {t : Scan} {w : Walk}
+    → Scanning f d at n t → Stops w → w ≡ stepAt d at → (at ≡ length d → ⊥) → Fault 10 at ≡ t
+cut {f} {d} {at} {n} g s e h =
+    let l : 0 < length (drop at d) = simp length-drop (omega (arith, g .inside)) in
+    sym (ap (scan f n at) (stopped d at s e) ∙ cut-scan f n at (drop at d) l) ∙ g .same

@@ -71,6 +71,11 @@ ahead (attribute h) = record { here = refl; value-at = refl; size-is = refl; nex
 pub kind-is : {d : List ℕ} {p q k v n x : ℕ} → At d p (Attribute q k v n x) → k ≡ be16 d p
 kind-is (attribute h) = refl
 
+-- a step that is no attribute
+pub data Stops : Walk → Type 0 where
+  at-end : {p : ℕ} → Stops (End p)
+  at-cut : {p : ℕ} → Stops (Cut p)
+
 pub cut-short : {d : List ℕ} {p q : ℕ} → At d p (Cut q) → p ≤ length d → (q ≡ p) × (p < length d)
 cut-short (beyond h) l = (refl, omega arith)
 cut-short (short h m) l = (refl, h)

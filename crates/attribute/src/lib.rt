@@ -2,7 +2,7 @@
 ghost use mathlib.Core.Path.{_≡_};
 ghost use Prim.Native.Nat.{_<_};
 ghost use Rattle.attribute.specs.Attribute.{padded};
-ghost use Rattle.attribute.specs.Walk.{stepAt, walkAt};
+ghost use Rattle.attribute.specs.Walk.{walkSaid, stepAt, walkAt};
 use header::Head;
 use numbers::u16_at;
 
@@ -38,7 +38,7 @@ fn with_padding(size: usize) -> usize
 
 // The walk over bytes whose header has been checked: any place, as if an attribute began there.
 pub fn step(d: &[u8], at: usize) -> Walk
-    ensures { λ r. ⌜ r ≡ stepAt (now (d .entry)) at ⌝ }
+    ensures { λ r. ⌜ walkSaid r ≡ walkSaid (stepAt (now (d .entry)) at) ⌝ }
 {
     if d.len() < at {
         return Walk::Cut { at };
@@ -66,7 +66,7 @@ pub fn step(d: &[u8], at: usize) -> Walk
 
 // The walk in a datagram: the cut where it is refused by 1 to 4 or the place lies in its header.
 pub fn walk_at(d: &[u8], at: usize) -> Walk
-    ensures { λ r. ⌜ r ≡ walkAt (now (d .entry)) at ⌝ }
+    ensures { λ r. ⌜ walkSaid r ≡ walkSaid (walkAt (now (d .entry)) at) ⌝ }
 {
     let h = header::header_of(d);
     let head = h.head;

@@ -1,4 +1,6 @@
 pub mod Choice
+pub mod Said
+pub mod SaidLaws
 pub mod Bytes
 pub mod Lists
 pub mod Xor

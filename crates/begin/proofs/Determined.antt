@@ -7,6 +7,7 @@ use Rattle.wire.specs.declared.method.Method.{Method}
 use Rattle.wire.specs.declared.transaction_id.TransactionId.{TransactionId}
 use Rattle.wire.specs.declared.types.MessageClass.{MessageClass}
 use Rattle.begin.specs.Begin.{begun, beginning}
+use Rattle.begin.specs.SaidLaws.{written-one}
 use Rattle.begin.specs.declared.Written.{Written}
 use Rattle.begin.proofs.begin.Kinds as begin
 use Rattle.begin.proofs.begin.Reads as begin-reads
@@ -16,4 +17,4 @@ pub determined-begin : Determines begin.ps begin.r {I = List ℕ × MessageClass
 determined-begin =
     by begin.ps begin.r begin-reads.Asked begin-reads.Learnt _ _
     (λ x. (begun (x .0) (x .2), beginning (x .0) (x .1) (x .2) (x .3)))
-    (λ κs a y d i q. ap₂ (λ (u : Written) (v : List ℕ). (u, v)) (q .0) (q .1))
+    (λ κs a y d i q. ap₂ (λ (u : Written) (v : List ℕ). (u, v)) (written-one (q .0)) (q .1))

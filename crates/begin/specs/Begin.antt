@@ -1,9 +1,10 @@
 -- A message begun (RFC 5389 section 6; docs/SCOPE.md, "Writing: begin"), and what a call of the writer answers.
 use Prim.Native.Nat.{ℕ}
-use mathlib.Core.List.{List, _++_}
+use mathlib.Core.List.{List, [], _∷_, _++_}
 use lib.ListN.{length}
 use lib.Dec.{ltb, eqb}
 use Rattle.base.specs.Choice.{pick}
+use Rattle.base.specs.Said.{Said, says}
 use Rattle.base.specs.Laid.{laid}
 use Rattle.numbers.specs.Numbers.{two}
 use Rattle.constants.specs.Cookie.{cookie}
@@ -13,6 +14,11 @@ use Rattle.wire.specs.declared.transaction_id.TransactionId.{TransactionId}
 use Rattle.wire.specs.declared.types.MessageClass.{MessageClass}
 use Rattle.begin.specs.declared.Written.{Written}
 use Rattle.begin.specs.declared.Written.the-variants.{Total, Refused}
+
+-- what an answer says: the message's size from now on, or refused by a number
+unfoldable pub writtenSaid : Written → Said
+writtenSaid (Total n) = says 0 0 (n ∷ [])
+writtenSaid (Refused k) = says 1 k []
 
 -- a header: type number, body length, cookie, ID
 unfoldable pub headBytes : ℕ → ℕ → List ℕ → List ℕ
@@ -30,12 +36,3 @@ begun d m = pick (eqb (beginFault d (m .code)) 0) (Total 20) (Refused (beginFaul
 unfoldable pub beginning : List ℕ → MessageClass → Method → TransactionId → List ℕ
 beginning d c m id =
     pick (eqb (beginFault d (m .code)) 0) (laid d 0 (headBytes (typeOf (classNumber c) (m .code)) 0 (id .bytes))) d
-
--- what each answer says, in numbers: 0 with the size, or the number with nought
-unfoldable pub numberOf : Written → ℕ
-numberOf (Total n) = 0
-numberOf (Refused k) = k
-
-unfoldable pub sizeOf : Written → ℕ
-sizeOf (Total n) = n
-sizeOf (Refused k) = 0

@@ -1,4 +1,4 @@
--- What the answer of `begin` says in numbers, and that a refusal leaves every byte as it was.
+-- The number that `begin` answers, and that a refusal leaves every byte as it was.
 use Prim.Native.Nat.{ℕ}
 use mathlib.Core.List.{List}
 use mathlib.Core.Bool.{Bool, true, false}
@@ -12,14 +12,14 @@ use Rattle.wire.specs.TypeNumber.{typeOf, classNumber}
 use Rattle.wire.specs.declared.method.Method.{Method}
 use Rattle.wire.specs.declared.transaction_id.TransactionId.{TransactionId}
 use Rattle.wire.specs.declared.types.MessageClass.{MessageClass}
-use Rattle.begin.specs.Begin.{headBytes, beginFault, begun, beginning, numberOf}
+use Rattle.begin.specs.Begin.{headBytes, beginFault, begun, beginning, writtenSaid}
 use Rattle.begin.specs.declared.Written.the-variants.{Total, Refused}
 
-pub begun-number : (d : List ℕ) (m : Method) → numberOf (begun d m) ≡ beginFault d (m .code)
-unfolding numberOf begun
+pub begun-number : (d : List ℕ) (m : Method) → writtenSaid (begun d m) .number ≡ beginFault d (m .code)
+unfolding writtenSaid begun
 begun-number d m = go (eqb (beginFault d (m .code)) 0) refl
   where
-    go : (b : Bool) → eqb (beginFault d (m .code)) 0 ≡ b → numberOf (pick b (Total 20) (Refused (beginFault d (m .code)))) ≡ beginFault d (m .code)
+    go : (b : Bool) → eqb (beginFault d (m .code)) 0 ≡ b → writtenSaid (pick b (Total 20) (Refused (beginFault d (m .code)))) .number ≡ beginFault d (m .code)
     go true p = sym (eqb-true (beginFault d (m .code)) 0 p)
     go false p = refl
 

@@ -3,7 +3,7 @@ ghost use mathlib.Core.Path.{_≡_};
 ghost use Prim.Native.Nat.{_≤_};
 ghost use lib.ListN.{length};
 ghost use Rattle.base.specs.Laid.{laid};
-ghost use Rattle.begin.specs.Begin.{headBytes, begun, beginning};
+ghost use Rattle.begin.specs.Begin.{writtenSaid, headBytes, begun, beginning};
 use buffers::put_bytes;
 use buffers::put_u16;
 use constants::put_cookie;
@@ -31,7 +31,7 @@ fn put_head(buf: &mut [u8], number: u16, id: [u8; 12])
 
 // Writes a header with body length 0 to the front of the buffer.
 pub fn begin(buf: &mut [u8], class: MessageClass, method: Method, id: TransactionId) -> Written
-    ensures { λ r. ⌜ (r ≡ begun (now (buf .entry)) method) × (now (buf .exit) ≡ beginning (now (buf .entry)) class method id) ⌝ }
+    ensures { λ r. ⌜ (writtenSaid r ≡ writtenSaid (begun (now (buf .entry)) method)) × (now (buf .exit) ≡ beginning (now (buf .entry)) class method id) ⌝ }
 {
     let t = MessageType { class, method };
     let made = t.as_u16();

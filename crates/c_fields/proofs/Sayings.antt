@@ -10,7 +10,8 @@ use Rattle.net.specs.declared.SocketAddr.{SocketAddr}
 use Rattle.begin.specs.declared.Written as begin
 use Rattle.append.specs.Append.{answer, appended}
 use Rattle.append_typed.specs.Typed.{typed}
-use Rattle.addresses.specs.Address.{addressNumber, addressValue, given}
+use Rattle.net.specs.Net.{addressValue}
+use Rattle.addresses.specs.Address.{addressNumber, given}
 use Rattle.addresses.specs.declared.AddressKind.{AddressKind}
 use Rattle.addresses.specs.declared.AddressKind.the-variants.{MappedAddress, XorMappedAddress, AlternateServer}
 use Rattle.c_wire.specs.Said.{addr}

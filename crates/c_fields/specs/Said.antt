@@ -8,7 +8,8 @@ use Rattle.header.specs.Header.{frontOf}
 use Rattle.net.specs.declared.Family.the-variants.{Ipv4, Ipv6}
 use Rattle.net.specs.declared.SocketAddr.{SocketAddr}
 use Rattle.append_typed.specs.Typed.{typed}
-use Rattle.addresses.specs.Address.{addressNumber, addressValue, given}
+use Rattle.net.specs.Net.{addressValue}
+use Rattle.addresses.specs.Address.{addressNumber, given}
 use Rattle.addresses.specs.declared.AddressKind.{AddressKind}
 use Rattle.addresses.specs.declared.AddressKind.the-variants.{MappedAddress, XorMappedAddress, AlternateServer}
 use Rattle.c_wire.specs.Said.{addr}

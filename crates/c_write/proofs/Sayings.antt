@@ -5,7 +5,7 @@ use mathlib.Core.Path.{_≡_, sym, ap, _∙_}
 use borrow.Author.Tests.{lt-ltb, le-ltb}
 use Rattle.wire.specs.TypeNumber.{classNumbered}
 use Rattle.wire.specs.declared.types.MessageClass.{MessageClass}
-use Rattle.begin.specs.Begin.{numberOf, sizeOf, begun, beginning}
+use Rattle.begin.specs.Begin.{begun, beginning}
 use Rattle.begin.specs.declared.Written as begin
 use Rattle.begin.specs.declared.Written.the-variants.{Total, Refused}
 use Rattle.plan.specs.declared.Plan as plan
@@ -16,11 +16,11 @@ use Rattle.c_write.specs.declared.Written.{Written}
 
 module _ (w : begin.Written) where
   pub total : {n : ℕ} → w ≡ Total n → record { number = 0; size = n } ≡ told w
-  unfolding told numberOf sizeOf
+  unfolding told
   total e = ap told (sym e)
 
   pub refused : {n : ℕ} → w ≡ Refused n → record { number = n; size = 0 } ≡ told w
-  unfolding told numberOf sizeOf
+  unfolding told
   refused e = ap told (sym e)
 
 module _ (d : List ℕ) (c m : ℕ) where

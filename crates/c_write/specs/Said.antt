@@ -4,8 +4,9 @@ use mathlib.Core.List.{List}
 use lib.Dec.{ltb}
 use Rattle.base.specs.Choice.{pick}
 use Rattle.wire.specs.TypeNumber.{classNumbered}
-use Rattle.begin.specs.Begin.{numberOf, sizeOf, begun, beginning}
+use Rattle.begin.specs.Begin.{begun, beginning}
 use Rattle.begin.specs.declared.Written as begin
+use Rattle.begin.specs.declared.Written.the-variants.{Total, Refused}
 use Rattle.plan.specs.declared.Plan as plan
 use Rattle.plan.specs.declared.Plan.the-variants.{Go, No}
 use Rattle.c_wire.specs.declared.Id.{Id}
@@ -13,7 +14,8 @@ use Rattle.c_write.specs.declared.Written.{Written}
 use Rattle.c_write.specs.declared.Plan.{Plan}
 
 unfoldable pub told : begin.Written → Written
-told w = record { number = numberOf w; size = sizeOf w }
+told (Total n) = record { number = 0; size = n }
+told (Refused k) = record { number = k; size = 0 }
 
 -- a message begun under a class's number; a class above 3 is none: 22, and the buffer as it was
 unfoldable pub begunBy : List ℕ → ℕ → ℕ → Written

@@ -4,6 +4,7 @@ use mathlib.Core.List.{List}
 use Rattle.base.specs.Determined.{Determines, by}
 use Rattle.digits.specs.Digit.{firstBad}
 use Rattle.digits.specs.Number.{numberOf}
+use Rattle.digits.specs.SaidLaws.{number-one}
 use Rattle.digits.specs.declared.Number.{Number}
 use Rattle.digits.proofs.first_bad.Kinds as first-bad
 use Rattle.digits.proofs.first_bad.Reads as first-bad-reads
@@ -16,4 +17,4 @@ determined-first-bad = by first-bad.ps first-bad.r first-bad-reads.Asked first-b
 
 pub determined-number-of : Determines number-of.ps number-of.r {I = List ℕ} {A = Number} number-of-reads.Asked number-of-reads.Learnt
     (λ κs a. a .0 .now) (λ κs z e. z)
-determined-number-of = by number-of.ps number-of.r number-of-reads.Asked number-of-reads.Learnt _ _ numberOf (λ κs a y d i q. q)
+determined-number-of = by number-of.ps number-of.r number-of-reads.Asked number-of-reads.Learnt _ _ numberOf (λ κs a y d i q. number-one q)

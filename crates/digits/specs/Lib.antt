@@ -1,3 +1,4 @@
 pub mod Digit
 pub mod DigitLaws
 pub mod Number
+pub mod SaidLaws

@@ -4,9 +4,15 @@ use mathlib.Core.List.{List, [], _∷_}
 use lib.Dec.{ltb, eqb}
 use lib.ListN.{length, getD, drop}
 use Rattle.base.specs.Choice.{pick}
+use Rattle.base.specs.Said.{Said, says}
 use Rattle.digits.specs.Digit.{digitOf}
 use Rattle.digits.specs.declared.Number.{Number}
 use Rattle.digits.specs.declared.Number.the-variants.{Is, Not}
+
+-- what an answer says: a number, or that there is none
+unfoldable pub numberSaid : Number → Said
+numberSaid (Is n) = says 0 0 (n ∷ [])
+numberSaid Not = says 1 0 []
 
 -- the number that n goes on to with the digits of a text
 unfoldable pub valueFrom : ℕ → ℕ → List ℕ → Number

@@ -3,7 +3,7 @@ ghost use mathlib.Core.Path.{_≡_};
 ghost use Prim.Native.Nat.{_<_};
 ghost use lib.ListN.{drop};
 ghost use Rattle.digits.specs.Digit.{digitOf, firstBad};
-ghost use Rattle.digits.specs.Number.{valueFrom, numberOf};
+ghost use Rattle.digits.specs.Number.{numberSaid, valueFrom, numberOf};
 
 pub enum Number {
     Is(u64),
@@ -72,7 +72,7 @@ fn value_in(s: &[u8], from: usize, base: u64) -> Number
 
 // The number that text says: decimal, or hex behind 0x.
 pub fn number_of(s: &[u8]) -> Number
-    ensures { λ r. ⌜ r ≡ numberOf (now (s .entry)) ⌝ }
+    ensures { λ r. ⌜ numberSaid r ≡ numberSaid (numberOf (now (s .entry))) ⌝ }
 {
     if s.len() == 0 {
         return Number::Not;

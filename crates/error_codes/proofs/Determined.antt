@@ -4,6 +4,7 @@ use mathlib.Core.List.{List}
 use mathlib.Core.Path.{ap₂}
 use Rattle.base.specs.Determined.{Determines, by}
 use Rattle.rfc5389.specs.Rows.{rfc5389}
+use Rattle.begin.specs.SaidLaws.{written-one}
 use Rattle.begin.specs.declared.Written.{Written}
 use Rattle.append.specs.Append.{answer, appended}
 use Rattle.append_typed.specs.Typed.{typed}
@@ -16,4 +17,4 @@ pub determined-append-error-code : Determines append-error-code.ps append-error-
 determined-append-error-code =
     by append-error-code.ps append-error-code.r append-error-code-reads.Asked append-error-code-reads.Learnt _ _
     (λ x. (answer (x .0) (codeRefusal rfc5389 (x .1) (x .2)) (typed 0x0009 (codeValue (x .1) (x .2))), appended (x .0) (codeRefusal rfc5389 (x .1) (x .2)) (typed 0x0009 (codeValue (x .1) (x .2)))))
-    (λ κs a y d i q. ap₂ (λ (u : Written) (v : List ℕ). (u, v)) (q .0) (q .1))
+    (λ κs a y d i q. ap₂ (λ (u : Written) (v : List ℕ). (u, v)) (written-one (q .0)) (q .1))

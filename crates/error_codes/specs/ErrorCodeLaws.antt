@@ -1,4 +1,4 @@
--- An error code that was appended has none of the faults 11 to 14.
+-- An error code that is not refused has none of the faults 11 to 14.
 use Prim.Native.Nat.{ℕ}
 use mathlib.Core.List.{List}
 use mathlib.Core.Bool.{Bool, true, false}
@@ -6,20 +6,15 @@ use mathlib.Core.Path.{_≡_}
 use native.Mathlib.Omega.{arith}
 use lib.Dec.{ltb}
 use Rattle.base.specs.Choice.{pick}
-use Rattle.attribute.specs.Attribute.{Attr}
 use Rattle.rfc5389.specs.Fault.{fault}
 use Rattle.rfc5389.specs.declared.Row.{Row}
-use Rattle.begin.specs.declared.Written.the-variants.{Total}
-use Rattle.append.specs.Append.{answer}
-use Rattle.append.specs.AppendLaws.{total-goes}
 use Rattle.append_typed.specs.Typed.{refusal}
 use Rattle.append_typed.specs.TypedLaws.{no-fault}
 use Rattle.error_codes.specs.ErrorCode.{codeValue, codeRefusal}
 
-pub code-passes : (rows : List Row) (d : List ℕ) (c : ℕ) (s : List ℕ) (a : Attr) {t : ℕ} → answer d (codeRefusal rows c s) a ≡ Total t
-    → fault rows 0x0009 (codeValue c s) ≡ 0
+pub code-right : (rows : List Row) (c : ℕ) (s : List ℕ) → codeRefusal rows c s ≡ 0 → fault rows 0x0009 (codeValue c s) ≡ 0
 unfolding codeRefusal
-code-passes rows d c s a e = go (ltb c 300) (ltb 699 c) (total-goes d (codeRefusal rows c s) a e .2 .right)
+code-right rows c s e = go (ltb c 300) (ltb 699 c) e
   where
     go : (p q : Bool) → _≡_ {A = ℕ} (pick p 23 (pick q 23 (refusal rows 0x0009 (codeValue c s)))) 0 → fault rows 0x0009 (codeValue c s) ≡ 0
     go false false f = no-fault rows 0x0009 (codeValue c s) f

@@ -5,6 +5,7 @@ ghost use Prim.Native.Nat.{_+_, _<_, _≤_};
 ghost use lib.ListN.{length, take};
 ghost use lib.Dec.{ltb};
 ghost use Rattle.rfc5389.specs.Rows.{rfc5389};
+ghost use Rattle.begin.specs.Begin.{writtenSaid};
 ghost use Rattle.append.specs.Append.{answer, appended};
 ghost use Rattle.append_typed.specs.Typed.{typed, refusal};
 ghost use Rattle.error_codes.specs.ErrorCode.{codeValue, codeRefusal};
@@ -40,7 +41,7 @@ fn outside(code: u16, n: usize) -> bool
 
 // Appends the bytes of an ERROR-CODE, judged by the list of types.
 fn append_code(buf: &mut [u8], v: &[u8]) -> Written
-    ensures { λ r. ⌜ (r ≡ answer (now (buf .entry)) (refusal rfc5389 0x0009 (now (v .entry))) (typed 0x0009 (now (v .entry))))
+    ensures { λ r. ⌜ (writtenSaid r ≡ writtenSaid (answer (now (buf .entry)) (refusal rfc5389 0x0009 (now (v .entry))) (typed 0x0009 (now (v .entry)))))
         × (now (buf .exit) ≡ appended (now (buf .entry)) (refusal rfc5389 0x0009 (now (v .entry))) (typed 0x0009 (now (v .entry)))) ⌝ }
 {
     let wrong = refusal_of(0x0009, v);
@@ -49,7 +50,7 @@ fn append_code(buf: &mut [u8], v: &[u8]) -> Written
 
 // Appends ERROR-CODE.
 pub fn append_error_code(buf: &mut [u8], code: u16, phrase: &[u8]) -> Written
-    ensures { λ r. ⌜ (r ≡ answer (now (buf .entry)) (codeRefusal rfc5389 code (now (phrase .entry))) (typed 0x0009 (codeValue code (now (phrase .entry)))))
+    ensures { λ r. ⌜ (writtenSaid r ≡ writtenSaid (answer (now (buf .entry)) (codeRefusal rfc5389 code (now (phrase .entry))) (typed 0x0009 (codeValue code (now (phrase .entry))))))
         × (now (buf .exit) ≡ appended (now (buf .entry)) (codeRefusal rfc5389 code (now (phrase .entry))) (typed 0x0009 (codeValue code (now (phrase .entry))))) ⌝ }
 {
     let n = phrase.len();

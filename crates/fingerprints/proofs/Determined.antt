@@ -2,6 +2,7 @@
 use Prim.Native.Nat.{ℕ}
 use mathlib.Core.List.{List}
 use Rattle.base.specs.Determined.{Determines, by}
+use Rattle.attribute.specs.SaidLaws.{scan-one}
 use Rattle.attribute.specs.declared.Scan.{Scan}
 use Rattle.fingerprints.specs.Fingerprints.{printsFrom}
 use Rattle.fingerprints.proofs.prints_from.Kinds as prints
@@ -10,4 +11,4 @@ use Rattle.fingerprints.proofs.prints_from.Reads as prints-reads
 pub determined-prints-from : Determines prints.ps prints.r {I = List ℕ × ℕ × ℕ} {A = Scan} prints-reads.Asked prints-reads.Learnt
     (λ κs a. (a .0 .now, a .1 .0, a .1 .1 .0)) (λ κs z e. z)
 determined-prints-from =
-    by prints.ps prints.r prints-reads.Asked prints-reads.Learnt _ _ (λ x. printsFrom (x .0) (x .1) (x .2)) (λ κs a y d i q. q)
+    by prints.ps prints.r prints-reads.Asked prints-reads.Learnt _ _ (λ x. printsFrom (x .0) (x .1) (x .2)) (λ κs a y d i q. scan-one q)

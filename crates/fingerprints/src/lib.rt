@@ -2,6 +2,7 @@
 ghost use mathlib.Core.Path.{_≡_};
 ghost use Prim.Native.Nat.{_+_, _-_, _≤_, _<_};
 ghost use lib.ListN.{length, take, drop};
+ghost use Rattle.attribute.specs.Scan.{scanSaid};
 ghost use Rattle.attribute.specs.ScanLaws.{Scanning};
 ghost use Rattle.crc.specs.Octets.{word};
 ghost use Rattle.byte_tables.specs.Tables.{Steps};
@@ -274,26 +275,13 @@ fn prints(t: &[u32], d: &[u8], from: usize, before: usize) -> Scan
             next,
         } = w
         else {
-            match w {
-                Walk::End { at: _ } => {
-                    return Scan::Passed { count };
-                }
-                Walk::Cut { at: p } => {
-                    return Scan::Fault {
-                        reason: 10,
-                        place: p,
-                    };
-                }
-                Walk::Attribute {
-                    at: _,
-                    kind: _,
-                    value: _,
-                    size: _,
-                    next: _,
-                } => {
-                    return Scan::Passed { count: 0 };
-                }
+            if at == d.len() {
+                return Scan::Passed { count };
             }
+            return Scan::Fault {
+                reason: 10,
+                place: at,
+            };
         };
         let v = print_fault(t, d, run, at, kind, size);
         if v.fault != 0 {
@@ -355,7 +343,7 @@ fn starting(d: &[u8], from: usize, before: usize) -> Place
 
 // Each FINGERPRINT from a place on, before which so many attributes stand. That both can be is tested, so that nothing is required.
 pub fn prints_from(d: &[u8], from: usize, before: usize) -> Scan
-    ensures { λ r. ⌜ r ≡ printsFrom (now (d .entry)) from before ⌝ }
+    ensures { λ r. ⌜ scanSaid r ≡ scanSaid (printsFrom (now (d .entry)) from before) ⌝ }
 {
     if d.len() < 20 {
         return Scan::Passed { count: 0 };

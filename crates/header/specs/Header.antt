@@ -1,9 +1,10 @@
 -- The checks of a header, in order, and what it says (RFC 5389 section 6; docs/SCOPE.md, "Reading": numbers 1 to 4).
 use Prim.Native.Nat.{ℕ, _+_}
-use mathlib.Core.List.{List}
+use mathlib.Core.List.{List, _∷_}
 use lib.ListN.{length, take, drop, replicate}
 use lib.Dec.{ltb, leb, eqb}
 use Rattle.base.specs.Choice.{pick}
+use Rattle.base.specs.Said.{Said, says}
 use Rattle.numbers.specs.Numbers.{be16}
 use Rattle.constants.specs.Cookie.{cookieAt}
 use Rattle.wire.specs.TypeNumber.{classOf, methodOf, classNumber, classNumbered}
@@ -22,14 +23,13 @@ headerFault d = pick (eqb (frontFault d) 0) (pick (eqb (length d) (20 + be16 d 2
 unfoldable pub idOf : List ℕ → List ℕ
 idOf d = take 12 (drop 8 d)
 
--- what each answer says, in numbers: 0 with class, method and body length, or the number and nought
-unfoldable pub numberOf : Head → ℕ
-numberOf (Good c m b) = 0
-numberOf (Refused n) = n
+-- what an answer says: good, with class, method and body length, or refused by a number; and the bytes of the ID
+unfoldable pub headSaid : Head → List ℕ → Said
+headSaid (Good c m b) i = says 0 0 (classNumber c ∷ m .code ∷ b ∷ i)
+headSaid (Refused n) i = says 1 n i
 
-unfoldable pub valuesOf : Head → ℕ × ℕ × ℕ
-valuesOf (Good c m b) = (classNumber c, m .code, b)
-valuesOf (Refused n) = (0, 0, 0)
+unfoldable pub headerSaid : Header → Said
+headerSaid h = headSaid (h .head) (h .id .bytes)
 
 abbrev pub refusedBy : ℕ → Header
 refusedBy n = record { head = Refused n; id = record { bytes = replicate 12 0 } }

@@ -1,4 +1,4 @@
--- What the answers of the header checks say, in numbers.
+-- What the checks of a header answer.
 use Prim.Native.Nat.{ℕ, _+_, _-_, _≤_, _<_}
 use mathlib.Core.List.{List}
 use mathlib.Core.Bool.{Bool, true, false}
@@ -15,39 +15,40 @@ use Rattle.constants.specs.Cookie.{cookieAt}
 use Rattle.wire.specs.TypeNumber.{classOf, methodOf, classNumbered}
 use Rattle.wire.specs.declared.method.Method.{Method}
 use Rattle.wire.specs.declared.types.MessageClass.{MessageClass}
+use Rattle.header.specs.declared.Head.{Head}
 use Rattle.header.specs.declared.Head.the-variants.{Good, Refused}
 use Rattle.header.specs.declared.Header.{Header}
-use Rattle.header.specs.Header.{frontFault, headerFault, numberOf, told, refusedBy, answer, frontOf, headerOf}
+use Rattle.header.specs.Header.{frontFault, headerFault, headSaid, headerSaid, told, refusedBy, answer, frontOf, headerOf}
 
-answer-number : (n : ℕ) (d : List ℕ) → numberOf (answer n d .head) ≡ n
-unfolding numberOf answer told
+answer-number : (n : ℕ) (d : List ℕ) → headerSaid (answer n d) .number ≡ n
+unfolding headSaid headerSaid answer told
 answer-number n d = go (eqb n 0) refl
   where
-    go : (b : Bool) → eqb n 0 ≡ b → numberOf (pick b (told d) (refusedBy n) .head) ≡ n
+    go : (b : Bool) → eqb n 0 ≡ b → headerSaid (pick b (told d) (refusedBy n)) .number ≡ n
     go true e = sym (eqb-true n 0 e)
     go false e = refl
 
 -- the number that a call answers is the first check that applies
-pub front-number : (d : List ℕ) → numberOf (frontOf d .head) ≡ frontFault d
+pub front-number : (d : List ℕ) → headerSaid (frontOf d) .number ≡ frontFault d
 unfolding frontOf
 front-number d = answer-number (frontFault d) d
 
-pub header-number : (d : List ℕ) → numberOf (headerOf d .head) ≡ headerFault d
+pub header-number : (d : List ℕ) → headerSaid (headerOf d) .number ≡ headerFault d
 unfolding headerOf
 header-number d = answer-number (headerFault d) d
 
 -- what the header of a datagram that isn't refused says
-pub record Said (d : List ℕ) (c : MessageClass) (m : Method) (b : ℕ) : Type 0 where
+pub record GoodHead (d : List ℕ) (c : MessageClass) (m : Method) (b : ℕ) : Type 0 where
   pub fault : headerFault d ≡ 0
   pub class : c ≡ classNumbered (classOf (be16 d 0))
   pub method : m ≡ record { code = methodOf (be16 d 0) }
   pub body : b ≡ be16 d 2
   pub answer : headerOf d ≡ told d
 
-pub said : (d : List ℕ) {c : MessageClass} {m : Method} {b : ℕ} → headerOf d .head ≡ Good c m b → Said d c m b
-unfolding headerOf answer told numberOf
-said d {c} {m} {b} e =
-    let f : headerFault d ≡ 0 = sym (header-number d) ∙ ap numberOf e in
+pub good-head : (d : List ℕ) {c : MessageClass} {m : Method} {b : ℕ} → headerOf d .head ≡ Good c m b → GoodHead d c m b
+unfolding headerOf answer told headSaid headerSaid
+good-head d {c} {m} {b} e =
+    let f : headerFault d ≡ 0 = sym (header-number d) ∙ ap (λ (x : Head). headSaid x (headerOf d .id .bytes) .number) e in
     let g : headerOf d ≡ told d = rw f in
     let h : told d .head ≡ Good c m b = sym (ap (λ (x : Header). x .head) g) ∙ e in
     record { fault = f; class = cc; method = cc; body = cc; answer = g }
@@ -59,9 +60,9 @@ pub record Not (d : List ℕ) (k : ℕ) : Type 0 where
   pub answer : headerOf d ≡ refusedBy k
 
 pub refused : (d : List ℕ) {k : ℕ} → headerOf d .head ≡ Refused k → Not d k
-unfolding headerOf answer told numberOf
+unfolding headerOf answer told headSaid headerSaid
 refused d {k} e =
-    let f : headerFault d ≡ k = sym (header-number d) ∙ ap numberOf e in
+    let f : headerFault d ≡ k = sym (header-number d) ∙ ap (λ (x : Head). headSaid x (headerOf d .id .bytes) .number) e in
     let n : headerFault d ≡ 0 → ⊥ = λ z. let y : _≡_ {A = ℕ} 0 1 = cc (ap (λ (n : ℕ). answer n d .head) z) in omega arith in
     record { number = f; some = n; answer = simp (ne-eqb (headerFault d) 0 n) (ap refusedBy f) }
 
@@ -71,9 +72,9 @@ pub record Front (d : List ℕ) (b : ℕ) : Type 0 where
   pub body : b ≡ be16 d 2
 
 pub front-said : (d : List ℕ) {c : MessageClass} {m : Method} {b : ℕ} → frontOf d .head ≡ Good c m b → Front d b
-unfolding frontOf answer told numberOf
+unfolding frontOf answer told headSaid headerSaid
 front-said d {c} {m} {b} e =
-    let f : frontFault d ≡ 0 = sym (front-number d) ∙ ap numberOf e in
+    let f : frontFault d ≡ 0 = sym (front-number d) ∙ ap (λ (x : Head). headSaid x (frontOf d .id .bytes) .number) e in
     let g : told d .head ≡ Good c m b = sym (ap (λ (n : ℕ). answer n d .head) f) ∙ e in
     record { fault = f; body = cc }
 

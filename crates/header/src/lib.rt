@@ -2,7 +2,7 @@
 ghost use mathlib.Core.Path.{_≡_};
 ghost use Prim.Native.Nat.{_≤_, _<_};
 ghost use lib.ListN.{length};
-ghost use Rattle.header.specs.Header.{idOf, refusedBy, frontOf, headerOf};
+ghost use Rattle.header.specs.Header.{idOf, headerSaid, refusedBy, frontOf, headerOf};
 use constants::cookie_at;
 use numbers::u16_at;
 use wire::method::Method;
@@ -53,7 +53,7 @@ fn refused(number: u8) -> Header
 
 // The header at the front of a buffer, by the checks 1 to 3.
 pub fn front_of(d: &[u8]) -> Header
-    ensures { λ r. ⌜ r ≡ frontOf (now (d .entry)) ⌝ }
+    ensures { λ r. ⌜ headerSaid r ≡ headerSaid (frontOf (now (d .entry))) ⌝ }
 {
     if d.len() < 20 {
         return refused(1);
@@ -81,7 +81,7 @@ pub fn front_of(d: &[u8]) -> Header
 
 // The header of a datagram, by the checks 1 to 4.
 pub fn header_of(d: &[u8]) -> Header
-    ensures { λ r. ⌜ r ≡ headerOf (now (d .entry)) ⌝ }
+    ensures { λ r. ⌜ headerSaid r ≡ headerSaid (headerOf (now (d .entry))) ⌝ }
 {
     let h = front_of(d);
     let head = h.head;

@@ -13,7 +13,7 @@ use Rattle.wire.specs.declared.method.Method.{Method}
 use Rattle.wire.specs.declared.types.MessageClass.{MessageClass}
 use Rattle.rfc5389.specs.Rows.{look, rfc5389}
 use Rattle.rfc5389.specs.Fault.{ruleOf, ruleFault, sizeFault, fault}
-use Rattle.message.specs.Reading.{readingOf, numberOf}
+use Rattle.message.specs.Reading.{answerSaid, readingSaid, readingOf}
 use Rattle.message.specs.declared.Answer.{Answer}
 use Rattle.message.specs.declared.Answer.the-variants.{Whole, Broken, Refused}
 use Rattle.message.specs.declared.Reading.{Reading}
@@ -38,16 +38,19 @@ twenty v e = go (ltb (length v) 20) refl e
     go false f g = ltb-false (length v) 20 f
 
 module _ (d key : List ℕ) {r : Reading} (e : r ≡ readingOf rfc5389 d) where
-  by-answer : {a : Answer} → r .answer ≡ a → integrityFault rfc5389 d key ≡ pick (wholeBy a) (compared d key (firstIn 0x0008 d)) (numberOf a)
-  unfolding integrityFault isWhole
-  by-answer f = ap (λ (x : Answer). pick (wholeBy x) (compared d key (firstIn 0x0008 d)) (numberOf x)) (sym (ap (λ (x : Reading). x .answer) e) ∙ f)
+  by-answer : {a : Answer} → r .answer ≡ a
+      → integrityFault rfc5389 d key ≡ pick (wholeBy a) (compared d key (firstIn 0x0008 d)) (answerSaid a (r .id .bytes) .number)
+  unfolding integrityFault isWhole readingSaid
+  by-answer f =
+      sym (ap (λ (x : Reading). pick (wholeBy (x .answer)) (compared d key (firstIn 0x0008 d)) (readingSaid x .number)) e)
+      ∙ ap (λ (x : Answer). pick (wholeBy x) (compared d key (firstIn 0x0008 d)) (answerSaid x (r .id .bytes) .number)) f
 
   pub refused : {n : ℕ} → r .answer ≡ Refused n → n ≡ integrityFault rfc5389 d key
-  unfolding numberOf
+  unfolding answerSaid
   refused g = sym (by-answer g)
 
   pub broken : {c : MessageClass} {m : Method} {n p : ℕ} → r .answer ≡ Broken c m n p → n ≡ integrityFault rfc5389 d key
-  unfolding numberOf
+  unfolding answerSaid
   broken g = sym (by-answer g)
 
   module _ {c : MessageClass} {m : Method} {n : ℕ} (g : r .answer ≡ Whole c m n) {f : First} (h : f ≡ placed (firstIn 0x0008 d)) where

@@ -4,7 +4,7 @@ use mathlib.Core.List.{List}
 use lib.ListN.{take}
 use Rattle.base.specs.Choice.{pick}
 use Rattle.rfc5389.specs.declared.Row.{Row}
-use Rattle.message.specs.Reading.{readingOf, numberOf}
+use Rattle.message.specs.Reading.{readingSaid, readingOf}
 use Rattle.value.specs.First.{Place, none, starts, firstIn, isWhole}
 use Rattle.base.specs.Same.{same}
 use Rattle.numbers.specs.Numbers.{withLength}
@@ -25,4 +25,4 @@ compared d key (starts p a) = comparedAt d key p (a .value)
 
 -- the reader's number where the datagram is not whole
 unfoldable pub integrityFault : List Row → List ℕ → List ℕ → ℕ
-integrityFault rows d key = pick (isWhole rows d) (compared d key (firstIn 0x0008 d)) (numberOf (readingOf rows d .answer))
+integrityFault rows d key = pick (isWhole rows d) (compared d key (firstIn 0x0008 d)) (readingSaid (readingOf rows d) .number)

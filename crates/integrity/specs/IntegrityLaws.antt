@@ -7,7 +7,7 @@ use native.Mathlib.Omega.{arith}
 use Rattle.base.specs.Choice.{pick}
 use Rattle.attribute.specs.Attribute.{Attr}
 use Rattle.rfc5389.specs.declared.Row.{Row}
-use Rattle.message.specs.Reading.{readingOf, numberOf}
+use Rattle.message.specs.Reading.{readingSaid, readingOf}
 use Rattle.value.specs.First.{Place, none, starts, firstIn, isWhole}
 use Rattle.value.specs.WholeLaws.{number-whole}
 use Rattle.base.specs.Same.{same, same-eq, same-refl}
@@ -38,6 +38,6 @@ only-signed rows d key e = go (isWhole rows d) refl e
         same-value true g i = record { whole = w; place = p; attr = a; there = f; value = same-eq (integrityAt key d p) (a .value) g }
         same-value false g i = absurd (omega arith)
 
-    go : (b : Bool) → isWhole rows d ≡ b → pick b (compared d key (firstIn 0x0008 d)) (numberOf (readingOf rows d .answer)) ≡ 0 → Signed rows d key
+    go : (b : Bool) → isWhole rows d ≡ b → pick b (compared d key (firstIn 0x0008 d)) (readingSaid (readingOf rows d) .number) ≡ 0 → Signed rows d key
     go true w h = found (firstIn 0x0008 d) w refl h
     go false w h = let z : false ≡ true = sym w ∙ number-whole rows d h in let y : _≡_ {A = ℕ} 0 1 = cc in absurd (omega arith)

@@ -8,7 +8,7 @@ use Rattle.wire.specs.declared.method.Method.{Method}
 use Rattle.wire.specs.declared.transaction_id.TransactionId.{TransactionId}
 use Rattle.wire.specs.declared.types.MessageClass.{MessageClass}
 use Rattle.header.specs.Header.{headerFault, headerOf, told, idOf}
-use Rattle.header.specs.HeaderLaws.{Said, said, Not, refused, long}
+use Rattle.header.specs.HeaderLaws.{GoodHead, good-head, Not, refused, long}
 use Rattle.header.specs.declared.Header.{Header}
 use Rattle.header.specs.declared.Head.the-variants as head
 use Rattle.attribute.specs.Scan.{scanned}
@@ -40,8 +40,8 @@ module _ (d : List ℕ) {h : Header} (e : h ≡ headerOf d) where
       (ap₂ (λ (x : ℕ) (y : TransactionId). record { answer = Refused x; id = y }) (sym (n .number)) (ap (λ (x : Header). x .id) (e ∙ n .answer)))
 
   module _ {c : MessageClass} {m : Method} {b : ℕ} (f : h .head ≡ head.Good c m b) where
-    good : Said d c m b
-    good = said d (sym (ap (λ (x : Header). x .head) e) ∙ f)
+    good : GoodHead d c m b
+    good = good-head d (sym (ap (λ (x : Header). x .head) e) ∙ f)
 
     pub read-long : 20 ≤ length d
     read-long = long d (good .fault)

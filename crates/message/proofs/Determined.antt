@@ -4,9 +4,10 @@ use mathlib.Core.List.{List}
 use Rattle.base.specs.Determined.{Determines, by}
 use Rattle.rfc5389.specs.Rows.{rfc5389}
 use Rattle.message.specs.Reading.{readingOf}
+use Rattle.message.specs.SaidLaws.{reading-one}
 use Rattle.message.specs.declared.Reading.{Reading}
 use Rattle.message.proofs.read.Kinds as read
 use Rattle.message.proofs.read.Reads as read-reads
 
 pub determined-read : Determines read.ps read.r {I = List ℕ} {A = Reading} read-reads.Asked read-reads.Learnt (λ κs a. a .0 .now) (λ κs z e. z)
-determined-read = by read.ps read.r read-reads.Asked read-reads.Learnt _ _ (readingOf rfc5389) (λ κs a y d i q. q)
+determined-read = by read.ps read.r read-reads.Asked read-reads.Learnt _ _ (readingOf rfc5389) (λ κs a y d i q. reading-one q)

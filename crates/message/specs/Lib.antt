@@ -1,4 +1,5 @@
 pub mod Reading
+pub mod SaidLaws
 pub mod Front
 pub mod Whole
 pub mod WholeLaws

@@ -1,9 +1,10 @@
 -- The reading of a datagram: number, class, method, ID, count, place, in the order of the checks (docs/SCOPE.md, "Reading a datagram").
 use Prim.Native.Nat.{ℕ}
-use mathlib.Core.List.{List}
+use mathlib.Core.List.{List, _∷_}
 use lib.ListN.{replicate}
 use lib.Dec.{eqb}
 use Rattle.base.specs.Choice.{pick}
+use Rattle.base.specs.Said.{Said, says}
 use Rattle.numbers.specs.Numbers.{be16}
 use Rattle.wire.specs.TypeNumber.{classOf, methodOf, classNumber, classNumbered}
 use Rattle.wire.specs.declared.method.Method.{Method}
@@ -19,6 +20,16 @@ use Rattle.fingerprints.specs.Fingerprints.{printFaults}
 use Rattle.message.specs.declared.Answer.{Answer}
 use Rattle.message.specs.declared.Answer.the-variants.{Whole, Broken, Refused}
 use Rattle.message.specs.declared.Reading.{Reading}
+
+-- what an answer says: whole, with class, method and the number of attributes; broken by a reason, with class, method and the place of
+-- the attribute at fault; or refused by a number alone; and the bytes of the ID
+unfoldable pub answerSaid : Answer → List ℕ → Said
+answerSaid (Whole c m n) i = says 0 0 (classNumber c ∷ m .code ∷ n ∷ i)
+answerSaid (Broken c m r p) i = says 1 r (classNumber c ∷ m .code ∷ p ∷ i)
+answerSaid (Refused n) i = says 2 n i
+
+unfoldable pub readingSaid : Reading → Said
+readingSaid r = answerSaid (r .answer) (r .id .bytes)
 
 -- 11 to 14, by the attribute's type and value
 unfoldable pub valueFaults : List Row → ℕ → Attr → ℕ
@@ -45,14 +56,3 @@ readingOf rows d =
       id = record { bytes = idOf d };
     })
     (record { answer = Refused (headerFault d); id = record { bytes = replicate 12 0 } })
-
--- what each answer says, in numbers: the number (0 for whole), class, method, count, place; all else nought
-unfoldable pub numberOf : Answer → ℕ
-numberOf (Whole c m n) = 0
-numberOf (Broken c m r p) = r
-numberOf (Refused n) = n
-
-unfoldable pub valuesOf : Answer → ℕ × ℕ × ℕ × ℕ
-valuesOf (Whole c m n) = (classNumber c, m .code, n, 0)
-valuesOf (Broken c m r p) = (classNumber c, m .code, 0, p)
-valuesOf (Refused n) = (0, 0, 0, 0)

@@ -5,11 +5,11 @@ use mathlib.Core.Path.{_≡_}
 use lib.ListN.{drop}
 use Rattle.attribute.specs.Attribute.{Attr, attrs, parse}
 use Rattle.rfc5389.specs.declared.Row.{Row}
-use Rattle.message.specs.Reading.{numberOf, readingOf}
+use Rattle.message.specs.Reading.{readingSaid, readingOf}
 
 -- the reading's number is 0
 unfoldable pub Whole : List Row → List ℕ → Type 0
-Whole rows d = numberOf (readingOf rows d .answer) ≡ 0
+Whole rows d = readingSaid (readingOf rows d) .number ≡ 0
 
 -- the attributes from place 20 on
 abbrev pub attributes : List ℕ → List Attr

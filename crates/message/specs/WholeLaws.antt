@@ -18,8 +18,9 @@ use Rattle.attribute.specs.declared.Scan.{Scan}
 use Rattle.attribute.specs.declared.Scan.the-variants.{Passed, Fault}
 use Rattle.rfc5389.specs.declared.Row.{Row}
 use Rattle.fingerprints.specs.Fingerprints.{printFaults}
-use Rattle.message.specs.Reading.{valueFaults, andThen, outcome, answered, readingOf, numberOf}
+use Rattle.message.specs.Reading.{answerSaid, readingSaid, valueFaults, andThen, outcome, answered, readingOf}
 use Rattle.message.specs.Whole.{Whole, attributes}
+use Rattle.message.specs.declared.Answer.{Answer}
 use Rattle.message.specs.declared.Answer.the-variants as answer
 use Rattle.message.specs.declared.Reading.{Reading}
 
@@ -38,6 +39,11 @@ wholeOf d = record {
 }
 
 module _ (rows : List Row) (d : List ℕ) where
+  -- the number is the answer's
+  pub number-by : {a : Answer} → readingOf rows d .answer ≡ a → readingSaid (readingOf rows d) .number ≡ answerSaid a (readingOf rows d .id .bytes) .number
+  unfolding readingSaid
+  number-by e = ap (λ (a : Answer). answerSaid a (readingOf rows d .id .bytes) .number) e
+
   -- the answer behind a good header, and without one
   pub judged-answer : headerFault d ≡ 0
       → readingOf rows d .answer ≡ answered (classNumbered (classOf (be16 d 0))) (record { code = methodOf (be16 d 0) }) (outcome rows d)
@@ -49,24 +55,24 @@ module _ (rows : List Row) (d : List ℕ) where
   refused-answer h = simp (ne-eqb (headerFault d) 0 (λ e. omega arith))
 
   scans : headerFault d ≡ 0 → (c : MessageClass) (m : Method) (s t : Scan) → s ≡ scanned (valueFaults rows) d → t ≡ scanned (printFaults d) d
-      → numberOf (answered c m (andThen s t)) ≡ 0 → Parts rows d
-  unfolding scanned numberOf
-  scans z c m (Passed n) (Passed k) e f q =
+      → (i : List ℕ) → answerSaid (answered c m (andThen s t)) i .number ≡ 0 → Parts rows d
+  unfolding scanned answerSaid
+  scans z c m (Passed n) (Passed k) e f i q =
       let v : AllPass (valueFaults rows) 0 20 (parse 0 (drop 20 d)) n = passed-all (valueFaults rows) 0 20 (parse 0 (drop 20 d)) (sym e) in
       let w : AllPass (printFaults d) 0 20 (parse 0 (drop 20 d)) k = passed-all (printFaults d) 0 20 (parse 0 (drop 20 d)) (sym f) in
       record { header = z; covered = v .covered; values = v .each; prints = w .each }
-  scans z c m (Passed n) (Fault r p) e f q = absurd (fault-some (printFaults d) 0 20 (parse 0 (drop 20 d)) (sym f) q)
-  scans z c m (Fault r p) t e f q = absurd (fault-some (valueFaults rows) 0 20 (parse 0 (drop 20 d)) (sym e) q)
+  scans z c m (Passed n) (Fault r p) e f i q = absurd (fault-some (printFaults d) 0 20 (parse 0 (drop 20 d)) (sym f) q)
+  scans z c m (Fault r p) t e f i q = absurd (fault-some (valueFaults rows) 0 20 (parse 0 (drop 20 d)) (sym e) q)
 
   pub parts : Whole rows d → Parts rows d
-  unfolding Whole outcome numberOf
+  unfolding Whole answerSaid outcome
   parts w = by (decLt 0 (headerFault d))
     where
       by : Dec (0 < headerFault d) → Parts rows d
-      by (yes h) = let z : headerFault d ≡ 0 = sym (ap numberOf (refused-answer h)) ∙ w in absurd (omega arith)
+      by (yes h) = let z : headerFault d ≡ 0 = sym (number-by (refused-answer h)) ∙ w in absurd (omega arith)
       by (no h) =
           let z : headerFault d ≡ 0 = omega arith in
-          scans z _ _ _ _ refl refl (sym (ap numberOf (judged-answer z)) ∙ w)
+          scans z _ _ _ _ refl refl _ (sym (number-by (judged-answer z)) ∙ w)
 
   pub parts-told : Parts rows d → readingOf rows d ≡ wholeOf d
   unfolding readingOf outcome scanned
@@ -77,12 +83,12 @@ module _ (rows : List Row) (d : List ℕ) where
       rw (p .header, v, w)
 
   pub parts-whole : Parts rows d → Whole rows d
-  unfolding Whole numberOf
-  parts-whole p = ap (λ (r : Reading). numberOf (r .answer)) (parts-told p)
+  unfolding Whole readingSaid answerSaid
+  parts-whole p = ap (λ (r : Reading). readingSaid r .number) (parts-told p)
 
   pub told-whole : {c : MessageClass} {m : Method} {n : ℕ} → readingOf rows d .answer ≡ answer.Whole c m n → Whole rows d
-  unfolding Whole numberOf
-  told-whole e = ap numberOf e
+  unfolding Whole answerSaid
+  told-whole e = number-by e
 
   -- what the reader tells of a whole datagram
   pub told : Whole rows d → readingOf rows d ≡ wholeOf d

@@ -7,7 +7,7 @@ ghost use Rattle.attribute.specs.ScanLaws.{Scanning};
 ghost use Rattle.rfc5389.specs.Rows.{rfc5389};
 ghost use Rattle.fingerprints.specs.Fingerprints.{printFaults};
 ghost use Rattle.message.specs.Front.{pastOf};
-ghost use Rattle.message.specs.Reading.{valueFaults, outcome, readingOf};
+ghost use Rattle.message.specs.Reading.{valueFaults, outcome, readingSaid, readingOf};
 use attribute::Scan;
 use attribute::Walk;
 use attribute::step;
@@ -90,35 +90,19 @@ fn values(d: &[u8]) -> Found
             next,
         } = w
         else {
-            match w {
-                Walk::End { at: _ } => {
-                    return Found {
-                        scan: Scan::Passed { count },
-                        front,
-                    };
-                }
-                Walk::Cut { at: p } => {
-                    return Found {
-                        scan: Scan::Fault {
-                            reason: 10,
-                            place: p,
-                        },
-                        front,
-                    };
-                }
-                Walk::Attribute {
-                    at: _,
-                    kind: _,
-                    value: _,
-                    size: _,
-                    next: _,
-                } => {
-                    return Found {
-                        scan: Scan::Passed { count: 0 },
-                        front,
-                    };
-                }
+            if at == d.len() {
+                return Found {
+                    scan: Scan::Passed { count },
+                    front,
+                };
             }
+            return Found {
+                scan: Scan::Fault {
+                    reason: 10,
+                    place: at,
+                },
+                front,
+            };
         };
         let f = rfc5389::fault(kind, &d[value..value + size]);
         if f != 0 {
@@ -157,7 +141,7 @@ fn judged(d: &[u8]) -> Scan
 
 // Reads a datagram.
 pub fn read(d: &[u8]) -> Reading
-    ensures { λ r. ⌜ r ≡ readingOf rfc5389 (now (d .entry)) ⌝ }
+    ensures { λ r. ⌜ readingSaid r ≡ readingSaid (readingOf rfc5389 (now (d .entry))) ⌝ }
 {
     let h = header::header_of(d);
     let head = h.head;

@@ -3,6 +3,7 @@ use Prim.Native.Nat.{ℕ}
 use mathlib.Core.List.{List, [], _∷_, _++_}
 use lib.ListN.{take}
 use lib.Bits.{bitXor}
+use Rattle.numbers.specs.Numbers.{two}
 use Rattle.constants.specs.Cookie.{cookie}
 use Rattle.net.specs.declared.Family.{Family}
 use Rattle.net.specs.declared.Family.the-variants.{Ipv4, Ipv6}
@@ -31,3 +32,7 @@ addrXor a id = record {
   port = bitXor (a .port) 0x2112;
   ip = xored (a .ip) (take (ipSize (a .family)) (cookie ++ id .bytes));
 }
+
+-- the bytes of an address in a value: nought, the family, the port, as many IP bytes as the family has
+unfoldable pub addressValue : SocketAddr → List ℕ
+addressValue a = 0 ∷ familyNumber (a .family) ∷ two (a .port) ++ take (ipSize (a .family)) (a .ip)

@@ -3,6 +3,7 @@ use Prim.Native.Nat.{ℕ}
 use mathlib.Core.List.{List}
 use Rattle.base.specs.Determined.{Determines, by}
 use Rattle.plan.specs.Plan.{planOf}
+use Rattle.plan.specs.SaidLaws.{plan-one}
 use Rattle.plan.specs.declared.Plan.{Plan}
 use Rattle.plan.proofs.plan_for.Kinds as plan-for
 use Rattle.plan.proofs.plan_for.Reads as plan-for-reads
@@ -12,4 +13,4 @@ pub determined-plan-for : Determines plan-for.ps plan-for.r {I = List ℕ × ℕ
 determined-plan-for =
     by plan-for.ps plan-for.r plan-for-reads.Asked plan-for-reads.Learnt _ _
     (λ x. planOf (x .0) (x .1) (x .2) (x .3))
-    (λ κs a y d i q. q)
+    (λ κs a y d i q. plan-one q)

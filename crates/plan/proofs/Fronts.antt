@@ -4,7 +4,9 @@ use mathlib.Core.List.{List, [], _∷_}
 use mathlib.Core.Bool.{Bool, true, false}
 use mathlib.Core.Path.{_≡_, refl, sym, ap, _∙_}
 use native.Mathlib.Omega.{arith}
+use native.Mathlib.Decide.{ℕ-discrete}
 use borrow.Author.Tests.{lt-ltb, le-ltb, eq-eqb, ne-eqb}
+use lib.Dec.{eqb}
 use lib.ListN.{length, take, drop, length-drop}
 use Rattle.wire.specs.declared.method.Method.{Method}
 use Rattle.wire.specs.declared.types.MessageClass.{MessageClass}
@@ -14,10 +16,10 @@ use Rattle.header.specs.declared.Header.{Header}
 use Rattle.header.specs.declared.Head.the-variants.{Good, Refused}
 use Rattle.attribute.specs.Attribute.{rest, parse}
 use Rattle.attribute.specs.Walk.{stepAt}
-use Rattle.attribute.specs.WalkLaws.{Ahead, ahead, seen, cut-short}
-use Rattle.attribute.specs.BodyLaws.{body-seen}
+use Rattle.attribute.specs.WalkLaws.{Ahead, ahead, Stops, seen}
+use Rattle.attribute.specs.BodyLaws.{body-seen, stopped}
 use Rattle.attribute.specs.declared.Walk.{Walk}
-use Rattle.attribute.specs.declared.Walk.the-variants.{Attribute, End, Cut}
+use Rattle.attribute.specs.declared.Walk.the-variants.{Attribute}
 use Rattle.plan.specs.Plan.{none, covers, sizeOf, messageFault}
 
 -- what is left over from a place on is what is left over
@@ -39,19 +41,23 @@ module _ {m : List ℕ} {at : ℕ} {w : Walk} (g : Walking m at) (e : w ≡ step
     pub less : length m - x < length m - at
     less = omega (arith, on)
 
-  pub ended : {q : ℕ} → w ≡ End q → true ≡ covers m
-  unfolding covers
-  ended i = ap none (ap rest (sym (body-seen m at (sym i ∙ e))) ∙ g .same)
+  left-over : (n : ℕ) (r : List ℕ) → length r ≡ n → eqb n 0 ≡ none r
+  left-over n [] h = sym (ap (λ (i : ℕ). eqb i 0) h)
+  left-over n (b ∷ r) h = ne-eqb n 0 (λ z. omega arith)
 
-  pub cut : {q : ℕ} → w ≡ Cut q → false ≡ covers m
+  -- where the walk stops, at the end of the message or before it
+  pub ends : Stops w → eqb at (length m) ≡ covers m
   unfolding covers
-  cut {q} i =
-      let s : (q ≡ at) × (at < length m) = cut-short (seen (sym i ∙ e)) (g .inside) in
-      some (drop q m) (simp length-drop (omega arith)) ∙ ap none (ap rest (sym (body-seen m at (sym i ∙ e))) ∙ g .same)
+  ends s =
+      same-place at (length m) (g .inside) ∙ left-over (length m - at) (drop at m) (simp length-drop)
+      ∙ ap none (ap rest (sym (stopped m at s e)) ∙ g .same)
     where
-      some : (r : List ℕ) → 0 < length r → false ≡ none r
-      some [] h = absurd (omega arith)
-      some (b ∷ r) h = refl
+      same-place : (a b : ℕ) → a ≤ b → eqb a b ≡ eqb (b - a) 0
+      same-place a b l = go (ℕ-discrete a b)
+        where
+          go : Dec (a ≡ b) → eqb a b ≡ eqb (b - a) 0
+          go (yes h) = eq-eqb a b h ∙ sym (eq-eqb (b - a) 0 (omega arith))
+          go (no h) = ne-eqb a b h ∙ sym (ne-eqb (b - a) 0 (λ z. h (omega arith)))
 
 module _ (d : List ℕ) {h : Header} (e : h ≡ frontOf d) where
   pub fault-refused : {k : ℕ} → h .head ≡ Refused k → 21 ≡ messageFault d

@@ -5,11 +5,17 @@ use mathlib.Core.Bool.{Bool, true, false}
 use lib.ListN.{length, take, drop}
 use lib.Dec.{ltb, eqb}
 use Rattle.base.specs.Choice.{pick}
+use Rattle.base.specs.Said.{Said, says}
 use Rattle.numbers.specs.Numbers.{be16}
 use Rattle.header.specs.Header.{frontFault}
 use Rattle.attribute.specs.Attribute.{padded, rest, parse}
 use Rattle.plan.specs.declared.Plan.{Plan}
 use Rattle.plan.specs.declared.Plan.the-variants.{Go, No}
+
+-- what an answer says: where the attribute goes, the body length then and the total then; or refused by a number
+unfoldable pub planSaid : Plan → Said
+planSaid (Go p b t) = says 0 0 (p ∷ b ∷ t ∷ [])
+planSaid (No n) = says 1 n []
 
 abbrev pub none : List ℕ → Bool
 none [] = true

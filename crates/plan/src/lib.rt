@@ -2,7 +2,7 @@
 ghost use mathlib.Core.Path.{_≡_};
 ghost use Prim.Native.Nat.{_≤_};
 ghost use lib.ListN.{length};
-ghost use Rattle.plan.specs.Plan.{covers, messageFault, planOf};
+ghost use Rattle.plan.specs.Plan.{planSaid, covers, messageFault, planOf};
 use attribute::Walk;
 use attribute::step;
 use header::Head;
@@ -22,23 +22,17 @@ fn covered(m: &[u8]) -> bool
     let mut at = 20;
     loop {
         let w = step(m, at);
-        match w {
-            Walk::End { at: _ } => {
-                return true;
-            }
-            Walk::Cut { at: _ } => {
-                return false;
-            }
-            Walk::Attribute {
-                at: _,
-                kind: _,
-                value: _,
-                size: _,
-                next,
-            } => {
-                at = next;
-            }
-        }
+        let Walk::Attribute {
+            at: _,
+            kind: _,
+            value: _,
+            size: _,
+            next,
+        } = w
+        else {
+            return at == m.len();
+        };
+        at = next;
     }
 }
 
@@ -69,7 +63,7 @@ fn front_fault(d: &[u8]) -> u8
 
 // What appending a value of n bytes with m bytes of padding comes to. `wrong` is the caller's own number for the value, 0 where it has none.
 pub fn plan_for(d: &[u8], wrong: u8, n: usize, m: usize) -> Plan
-    ensures { λ r. ⌜ r ≡ planOf (now (d .entry)) wrong n m ⌝ }
+    ensures { λ r. ⌜ planSaid r ≡ planSaid (planOf (now (d .entry)) wrong n m) ⌝ }
 {
     if front_fault(d) != 0 {
         return Plan::No { number: 21 };

@@ -12,6 +12,14 @@ use Rattle.rfc5389.specs.declared.Rule.the-variants.{Address, Text, Code
 use Rattle.rfc5389.specs.declared.Sizes.{Sizes}
 use Rattle.rfc5389.specs.declared.Sizes.the-variants.{Between, Unknown}
 
+-- the rules by number
+unfoldable pub ruleNumber : Rule → ℕ
+ruleNumber Plain = 0
+ruleNumber Address = 1
+ruleNumber Text = 2
+ruleNumber Code = 3
+ruleNumber Types = 4
+
 -- what a value owes besides its size
 unfoldable pub ruleOf : ℕ → Rule
 ruleOf k =

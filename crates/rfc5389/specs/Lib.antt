@@ -1,2 +1,4 @@
 pub mod Rows
 pub mod Fault
+pub mod SaidLaws
+pub mod AddressLaws

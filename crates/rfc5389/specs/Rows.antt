@@ -3,6 +3,7 @@ use Prim.Native.Nat.{ℕ}
 use mathlib.Core.List.{List, [], _∷_}
 use lib.Dec.{eqb}
 use Rattle.base.specs.Choice.{pick}
+use Rattle.base.specs.Said.{Said, says}
 use Rattle.rfc5389.specs.declared.Row.{Row}
 use Rattle.rfc5389.specs.declared.Sizes.{Sizes}
 use Rattle.rfc5389.specs.declared.Sizes.the-variants.{Between, Unknown}
@@ -24,6 +25,11 @@ rfc5389 =
     ∷ row 0x8023 8 20
     ∷ row 0x8028 4 4
     ∷ []
+
+-- what an answer says: known, with the least and the greatest size, or unknown
+unfoldable pub sizesSaid : Sizes → Said
+sizesSaid (Between l g) = says 0 0 (l ∷ g ∷ [])
+sizesSaid Unknown = says 1 0 []
 
 -- the sizes that a list allows a type; a type that it doesn't have is unknown
 unfoldable pub look : List Row → ℕ → Sizes

@@ -1,7 +1,7 @@
 // The attributes of RFC 5389: the list of types with their sizes, and what is wrong with a value.
 ghost use mathlib.Core.Path.{_≡_};
-ghost use Rattle.rfc5389.specs.Rows.{look, rfc5389};
-ghost use Rattle.rfc5389.specs.Fault.{ruleOf, addressFault, codeFault, ruleFault, fault};
+ghost use Rattle.rfc5389.specs.Rows.{sizesSaid, look, rfc5389};
+ghost use Rattle.rfc5389.specs.Fault.{ruleNumber, ruleOf, addressFault, codeFault, ruleFault, fault};
 
 pub mod errors;
 pub mod methods;
@@ -86,7 +86,7 @@ pub enum Rule {
 
 // The sizes that the list allows a type.
 pub fn sizes_of(kind: u16) -> Sizes
-    ensures { λ r. ⌜ r ≡ look rfc5389 kind ⌝ }
+    ensures { λ r. ⌜ sizesSaid r ≡ sizesSaid (look rfc5389 kind) ⌝ }
 {
     let rows = ROWS;
     let mut i = 0;
@@ -104,7 +104,7 @@ pub fn sizes_of(kind: u16) -> Sizes
 }
 
 pub fn rule_of(kind: u16) -> Rule
-    ensures { λ r. ⌜ r ≡ ruleOf kind ⌝ }
+    ensures { λ r. ⌜ ruleNumber r ≡ ruleNumber (ruleOf kind) ⌝ }
 {
     match kind {
         0x0001 => Rule::Address,

@@ -1,7 +1,8 @@
--- An attribute appended is read behind what was there: class, method, ID and the earlier attributes as before, the new one as given.
+-- An attribute appended is read behind what was there: class, method, ID and the earlier attributes as before, the new one as given. This shuts
+-- out a writer that changes nothing or spoils what stood there, and a walk that reads one attribute and then says end.
 use Prim.Native.Nat.{ℕ, _+_, _≤_, _<_}
 use mathlib.Core.List.{List, [], _∷_, _++_}
-use mathlib.Core.Path.{_≡_, sym, ap, ap₂, _∙_}
+use mathlib.Core.Path.{_≡_, sym, ap, ap₂, _∙_, subst}
 use native.Mathlib.Omega.{arith}
 use lib.ListN.{length, take, drop, length-append, length-drop, take-append-drop}
 use lib.Seq.{take-at, length-take-le}
@@ -13,6 +14,7 @@ use Rattle.header.specs.HeaderLaws.{unrefused, take-be16, take-front}
 use Rattle.attribute.specs.Attribute.{padded, Attr, allBytes}
 use Rattle.attribute.specs.Attribute as one
 use Rattle.attribute.specs.RoundTrip.{Good}
+use Rattle.attribute.specs.CoverLaws.{Visits, placed, placed-one, visits, visits-one}
 use Rattle.begin.specs.declared.Written.the-variants.{Total}
 use Rattle.plan.specs.Plan.{sizeOf}
 use Rattle.plan.specs.PlanLaws.{Going, message}
@@ -21,7 +23,7 @@ use Rattle.append.specs.Append.{answer, appended}
 use Rattle.append.specs.AppendLaws.{total-goes}
 use Rattle.round_trip.specs.Message.{Message, bytesOf, messageOf, Shaped, Sound}
 use Rattle.round_trip.specs.FrontLaws.{head-length, front, all-one, goods-one, attr-length, step-buffer}
-use Rattle.round_trip.specs.Bijection.{bijection, read-written}
+use Rattle.round_trip.specs.Bijection.{bijection, read-written, header-again, covered-again}
 
 -- a message with one attribute more
 abbrev pub with : Message → Attr → Message
@@ -115,6 +117,21 @@ module _ (d : List ℕ) (f : ℕ) (a : Attr) {t : ℕ} (h : Bytes d) (k : a .kin
       let m : length (allBytes (X ++ (a ∷ []))) ≡ length (allBytes X) + length (one.bytesOf a) = all-one X a in
       record { method = w .method; id = w .id; attributes = goods-one X a (w .attributes) new-good; body = omega (arith, g) }
 
-  -- APPENDED, AND READ
-  pub appended-read : messageOf (take t (appended d f a)) ≡ with (held d) a
-  appended-read = ap messageOf appended-bytes ∙ read-written (with (held d) a) with-shaped
+  pub appended-message : messageOf (take t (appended d f a)) ≡ with (held d) a
+  appended-message = ap messageOf appended-bytes ∙ read-written (with (held d) a) with-shaped
+
+  -- APPENDED, AND READ: the walk visits the earlier attributes at their places, then the new one as it was given, then the end
+  pub appended-read : (xs : List (ℕ × Attr)) → Visits (take (sizeOf d) d) 20 xs → Visits (take t (appended d f a)) 20 (xs ++ ((sizeOf d, a) ∷ []))
+  unfolding messageOf
+  appended-read xs v =
+      let s : Sound (take (sizeOf d) d) = held-sound d h there in
+      let m : Message = with (held d) a in
+      let before : xs ≡ placed 20 (held d .attributes) = visits-one v (visits (take (sizeOf d) d) (s .header) (s .covered)) in
+      let size : 20 + length (allBytes (held d .attributes)) ≡ sizeOf d = ap (λ (x : ℕ). 20 + x) (held-length d h there) in
+      let all : placed 20 (messageOf (bytesOf m) .attributes) ≡ xs ++ ((sizeOf d, a) ∷ []) =
+      ap (λ (y : Message). placed 20 (y .attributes)) (read-written m with-shaped) ∙ placed-one 20 (held d .attributes) a
+      ∙ ap₂ (λ (ys : List (ℕ × Attr)) (q : ℕ). ys ++ ((q, a) ∷ [])) (sym before) size
+      in
+      let w : Visits (bytesOf m) 20 (placed 20 (messageOf (bytesOf m) .attributes)) = visits (bytesOf m) (header-again m with-shaped) (covered-again m with-shaped) in
+      subst (λ (y : List ℕ). Visits y 20 (xs ++ ((sizeOf d, a) ∷ []))) (sym appended-bytes)
+      (subst (λ (ys : List (ℕ × Attr)). Visits (bytesOf m) 20 ys) all w)

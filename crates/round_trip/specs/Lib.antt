@@ -5,4 +5,4 @@ pub mod Bijection
 pub mod Whole
 pub mod Appending
 pub mod Sealed
-pub mod Examples
+pub mod Longest

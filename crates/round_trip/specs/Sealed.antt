@@ -50,7 +50,7 @@ use Rattle.round_trip.specs.Message.{Message, bytesOf, messageOf, Shaped
 use Rattle.round_trip.specs.FrontLaws.{head-length, head-again, all-append}
 use Rattle.round_trip.specs.Bijection.{header-again, body-again, t-again}
 use Rattle.round_trip.specs.Whole.{Passes, passes, passes-whole}
-use Rattle.round_trip.specs.Appending.{with, held, held-shaped, held-bytes, held-length, with-shaped, appended-bytes, appended-read}
+use Rattle.round_trip.specs.Appending.{with, held, held-shaped, held-bytes, held-length, with-shaped, appended-bytes, appended-message}
 
 -- the attributes of a message's bytes, as one body
 body-is : (m : Message) → Shaped m → parse 0 (drop 20 (bytesOf m)) ≡ before (m .attributes) (stop [])

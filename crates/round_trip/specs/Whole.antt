@@ -2,7 +2,7 @@
 use Prim.Native.Nat.{ℕ, _+_, _≤_}
 use mathlib.Core.List.{List, [], _∷_}
 use mathlib.Core.Bool.{Bool, true, false}
-use mathlib.Core.Path.{_≡_, refl, sym, ap, _∙_}
+use mathlib.Core.Path.{_≡_, refl, sym, ap, _∙_, subst}
 use native.Mathlib.Omega.{arith}
 use borrow.Author.Tests.{eqb-true, eq-eqb}
 use lib.ListN.{length, take, drop, replicate}
@@ -19,13 +19,16 @@ use Rattle.attribute.specs.Attribute as one
 use Rattle.attribute.specs.Scan.{scan, scanned}
 use Rattle.attribute.specs.declared.Scan.{Scan}
 use Rattle.attribute.specs.declared.Scan.the-variants.{Passed, Fault}
+use Rattle.attribute.specs.PassLaws.{Pass}
 use Rattle.rfc5389.specs.declared.Row.{Row}
 use Rattle.fingerprints.specs.Fingerprints.{printFaults}
 use Rattle.message.specs.Reading.{valueFaults, andThen, outcome, answered, readingOf}
+use Rattle.message.specs.Whole.{attributes}
+use Rattle.message.specs.WholeLaws.{parts-told}
 use Rattle.message.specs.declared.Answer.the-variants.{Whole, Refused}
 use Rattle.message.specs.declared.Reading.{Reading}
 use Rattle.round_trip.specs.Message.{Message, bytesOf, messageOf, Shaped, Writable, Sound, write}
-use Rattle.round_trip.specs.Bijection.{bijection, read-written}
+use Rattle.round_trip.specs.Bijection.{bijection, read-written, header-again, covered-again}
 use Rattle.round_trip.specs.WriteAgain.{front-written}
 
 -- attributes that all pass leave no rest
@@ -92,6 +95,35 @@ module _ (rows : List Row) (d : List ℕ) {c : MessageClass} {m : Method} {n : �
       let r : length (bytesOf (messageOf d)) ≤ length b = rw (w .1) room in
       ap (λ (x : List ℕ). take (length x) (write b (messageOf d))) (sym (w .1)) ∙ front-written b (messageOf d) (w .0 .shape) r ∙ w .1
 
--- READ BACK: a message within the rules, written into a buffer with room for it, is read as that message
-pub read-back : (b : List ℕ) (m : Message) → Shaped m → length (bytesOf m) ≤ length b → messageOf (take (length (bytesOf m)) (write b m)) ≡ m
-read-back b m w room = ap messageOf (front-written b m w room) ∙ read-written m w
+-- MESSAGE BACK: a message within the rules, written into a buffer with room for it, is that message again
+pub message-back : (b : List ℕ) (m : Message) → Shaped m → length (bytesOf m) ≤ length b → messageOf (take (length (bytesOf m)) (write b m)) ≡ m
+message-back b m w room = ap messageOf (front-written b m w room) ∙ read-written m w
+
+-- a message within the rules whose values and FINGERPRINTs pass, under a list of types
+pub record Right (rows : List Row) (m : Message) : Type 0 where
+  pub shape : Shaped m
+  pub values : Pass (valueFaults rows) 20 (m .attributes)
+  pub prints : Pass (printFaults (bytesOf m)) 20 (m .attributes)
+
+-- what its reading is: whole, with its class, method, ID and number of attributes
+abbrev pub wholeWith : Message → Reading
+wholeWith m = record { answer = Whole (m .class) (m .method) (length (m .attributes)); id = m .id }
+
+pub right-read : (rows : List Row) (m : Message) → Right rows m → readingOf rows (bytesOf m) ≡ wholeWith m
+unfolding messageOf
+right-read rows m r =
+    let e : messageOf (bytesOf m) ≡ m = read-written m (r .shape) in
+    let a : attributes (bytesOf m) ≡ m .attributes = ap (λ (x : Message). x .attributes) e in
+    parts-told rows (bytesOf m)
+    (record {
+      header = header-again m (r .shape);
+      covered = covered-again m (r .shape);
+      values = subst (λ (xs : List Attr). Pass (valueFaults rows) 20 xs) (sym a) (r .values);
+      prints = subst (λ (xs : List Attr). Pass (printFaults (bytesOf m)) 20 xs) (sym a) (r .prints);
+    })
+    ∙ ap (λ (x : Message). wholeWith x) e
+
+-- READ BACK: written into a buffer with room for it, it is read so
+pub read-back : (rows : List Row) (b : List ℕ) (m : Message) → Right rows m → length (bytesOf m) ≤ length b
+    → readingOf rows (take (length (bytesOf m)) (write b m)) ≡ wholeWith m
+read-back rows b m r room = ap (readingOf rows) (front-written b m (r .shape) room) ∙ right-read rows m r

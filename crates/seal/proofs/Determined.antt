@@ -3,6 +3,7 @@ use Prim.Native.Nat.{ℕ}
 use mathlib.Core.List.{List}
 use mathlib.Core.Path.{ap₂}
 use Rattle.base.specs.Determined.{Determines, by}
+use Rattle.begin.specs.SaidLaws.{written-one}
 use Rattle.begin.specs.declared.Written.{Written}
 use Rattle.append.specs.Append.{answer, appended}
 use Rattle.seal.specs.Seal.{fingerprint, integrity}
@@ -16,11 +17,11 @@ pub determined-append-fingerprint : Determines append-fingerprint.ps append-fing
 determined-append-fingerprint =
     by append-fingerprint.ps append-fingerprint.r append-fingerprint-reads.Asked append-fingerprint-reads.Learnt _ _
     (λ x. (answer x 0 (fingerprint x), appended x 0 (fingerprint x)))
-    (λ κs a y d i q. ap₂ (λ (u : Written) (v : List ℕ). (u, v)) (q .0) (q .1))
+    (λ κs a y d i q. ap₂ (λ (u : Written) (v : List ℕ). (u, v)) (written-one (q .0)) (q .1))
 
 pub determined-append-integrity : Determines append-integrity.ps append-integrity.r {I = List ℕ × List ℕ} {A = Written × List ℕ} append-integrity-reads.Asked append-integrity-reads.Learnt
     (λ κs a. (a .0 .now, a .1 .0 .now)) (λ κs z e. (z, e .0 .now))
 determined-append-integrity =
     by append-integrity.ps append-integrity.r append-integrity-reads.Asked append-integrity-reads.Learnt _ _
     (λ x. (answer (x .0) 0 (integrity (x .1) (x .0)), appended (x .0) 0 (integrity (x .1) (x .0))))
-    (λ κs a y d i q. ap₂ (λ (u : Written) (v : List ℕ). (u, v)) (q .0) (q .1))
+    (λ κs a y d i q. ap₂ (λ (u : Written) (v : List ℕ). (u, v)) (written-one (q .0)) (q .1))

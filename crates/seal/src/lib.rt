@@ -1,5 +1,6 @@
 // FINGERPRINT and MESSAGE-INTEGRITY appended, each by the writer's own computation.
 ghost use mathlib.Core.Path.{_≡_};
+ghost use Rattle.begin.specs.Begin.{writtenSaid};
 ghost use Rattle.append.specs.Append.{answer, appended};
 ghost use Rattle.seal.specs.Seal.{fingerprint, integrity};
 use append::append_raw;
@@ -13,7 +14,7 @@ pub const MESSAGE_INTEGRITY: u16 = 0x0008;
 
 // Appends FINGERPRINT.
 pub fn append_fingerprint(buf: &mut [u8]) -> Written
-    ensures { λ r. ⌜ (r ≡ answer (now (buf .entry)) 0 (fingerprint (now (buf .entry))))
+    ensures { λ r. ⌜ (writtenSaid r ≡ writtenSaid (answer (now (buf .entry)) 0 (fingerprint (now (buf .entry)))))
         × (now (buf .exit) ≡ appended (now (buf .entry)) 0 (fingerprint (now (buf .entry)))) ⌝ }
 {
     let p = 20 + u16_at(buf, 2) as usize;
@@ -25,7 +26,7 @@ pub fn append_fingerprint(buf: &mut [u8]) -> Written
 
 // Appends MESSAGE-INTEGRITY under a key.
 pub fn append_message_integrity(buf: &mut [u8], key: &[u8]) -> Written
-    ensures { λ r. ⌜ (r ≡ answer (now (buf .entry)) 0 (integrity (now (key .entry)) (now (buf .entry))))
+    ensures { λ r. ⌜ (writtenSaid r ≡ writtenSaid (answer (now (buf .entry)) 0 (integrity (now (key .entry)) (now (buf .entry)))))
         × (now (buf .exit) ≡ appended (now (buf .entry)) 0 (integrity (now (key .entry)) (now (buf .entry)))) ⌝ }
 {
     let body = u16_at(buf, 2);

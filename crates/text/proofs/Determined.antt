@@ -5,6 +5,7 @@ use mathlib.Core.Path.{ap₂}
 use Rattle.base.specs.Determined.{Determines, by}
 use Rattle.text.specs.Hex.{hexOf, read, shown, showing}
 use Rattle.text.specs.declared.Hex.{Hex}
+use Rattle.text.specs.SaidLaws.{hex-one}
 use Rattle.text.proofs.unhex.Kinds as unhex
 use Rattle.text.proofs.unhex.Reads as unhex-reads
 use Rattle.text.proofs.show.Kinds as show
@@ -15,7 +16,7 @@ pub determined-unhex : Determines unhex.ps unhex.r {I = List ℕ × List ℕ} {A
 determined-unhex =
     by unhex.ps unhex.r unhex-reads.Asked unhex-reads.Learnt _ _
     (λ x. (hexOf (x .0), read (hexOf (x .0)) (x .1) (x .0)))
-    (λ κs a y d i q. ap₂ (λ (h : Hex) (l : List ℕ). (h, l)) (q .0) (q .1))
+    (λ κs a y d i q. ap₂ (λ (h : Hex) (l : List ℕ). (h, l)) (hex-one (q .0)) (q .1))
 
 pub determined-show : Determines show.ps show.r {I = List ℕ × List ℕ} {A = ℕ × List ℕ} show-reads.Asked show-reads.Learnt
     (λ κs a. (a .0 .now, a .1 .0 .now)) (λ κs z e. (z, e .1 .0 .now))

@@ -4,10 +4,17 @@ use mathlib.Core.List.{List, [], _∷_}
 use lib.Dec.{ltb, eqb}
 use lib.ListN.{length, take}
 use Rattle.base.specs.Choice.{pick}
+use Rattle.base.specs.Said.{Said, says}
 use Rattle.base.specs.Laid.{laid}
 use Rattle.digits.specs.Digit.{digitOf, firstBad}
 use Rattle.text.specs.declared.Hex.{Hex}
 use Rattle.text.specs.declared.Hex.the-variants.{Bytes, Bad, Odd}
+
+-- what an answer says: how many bytes; the place of the first character that is no digit; or that a digit is left over
+unfoldable pub hexSaid : Hex → Said
+hexSaid (Bytes n) = says 0 0 (n ∷ [])
+hexSaid (Bad p) = says 1 0 (p ∷ [])
+hexSaid Odd = says 2 0 []
 
 -- the digit of a value below 16, in lower case
 unfoldable pub glyphOf : ℕ → ℕ

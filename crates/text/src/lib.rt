@@ -3,7 +3,7 @@ ghost use mathlib.Core.Path.{_≡_};
 ghost use Prim.Native.Nat.{_<_, min};
 ghost use lib.ListN.{length};
 ghost use Rattle.digits.specs.Digit.{digitOf, firstBad};
-ghost use Rattle.text.specs.Hex.{glyphOf, hexOf, unhexed, read, shown, showing};
+ghost use Rattle.text.specs.Hex.{hexSaid, glyphOf, hexOf, unhexed, read, shown, showing};
 use digits::first_bad;
 
 // What hex text comes to: that many bytes; the place of the first character that is no digit; or one digit too many.
@@ -51,7 +51,7 @@ fn spell(s: &[u8], out: &mut [u8])
 
 // Puts the bytes that s spells at the front of out, as far as there is room; where s is no hex, nothing changes.
 pub fn unhex(s: &[u8], out: &mut [u8]) -> Hex
-    ensures { λ r. ⌜ (r ≡ hexOf (now (s .entry))) × (now (out .exit) ≡ read (hexOf (now (s .entry))) (now (out .entry)) (now (s .entry))) ⌝ }
+    ensures { λ r. ⌜ (hexSaid r ≡ hexSaid (hexOf (now (s .entry)))) × (now (out .exit) ≡ read (hexOf (now (s .entry))) (now (out .entry)) (now (s .entry))) ⌝ }
 {
     let bad = first_bad(s);
     if bad < s.len() {

@@ -11,7 +11,7 @@ use Rattle.wire.specs.declared.method.Method.{Method}
 use Rattle.wire.specs.declared.types.MessageClass.{MessageClass}
 use Rattle.header.specs.HeaderLaws.{sized}
 use Rattle.attribute.specs.Attribute.{Attr, rest, parse}
-use Rattle.attribute.specs.CoverLaws.{sizes, sizes-rest, sizes-least, Visits, visits, visits-one}
+use Rattle.attribute.specs.CoverLaws.{sizes, sizes-rest, sizes-least, Visits, placed, visits, visits-one}
 use Rattle.rfc5389.specs.declared.Row.{Row}
 use Rattle.message.specs.Reading.{readingOf}
 use Rattle.message.specs.Whole.{Whole, attributes}
@@ -27,11 +27,11 @@ module _ (rows : List Row) (d : List ℕ) (w : Whole rows d) where
       let e : sizes (attributes d) + length (rest (parse 0 (drop 20 d))) ≡ length (drop 20 d) = omega (arith, sizes-rest 0 (drop 20 d)) in
       omega (arith, simp length-drop at e, ap length (p .covered), sized d (p .header))
 
-  -- the walk from place 20 to the end visits the attributes, in order, and no others
-  pub visited : Visits d 20 (attributes d)
+  -- the walk from place 20 to the end visits the attributes one behind the other, and no others
+  pub visited : Visits d 20 (placed 20 (attributes d))
   visited = let p : Parts rows d = parts rows d w in visits d (p .header) (p .covered)
 
-  pub visited-just : (xs : List Attr) → Visits d 20 xs → xs ≡ attributes d
+  pub visited-just : (xs : List (ℕ × Attr)) → Visits d 20 xs → xs ≡ placed 20 (attributes d)
   visited-just xs v = visits-one v visited
 
   pub at-most : Bytes d → length (attributes d) ≤ 16383

@@ -1,74 +1,149 @@
 -- DEMAND 2, in the words of docs/SCOPE.md ("Writing again what was read", "Writing: append"): what is read as whole, written again with its
--- padding, is the same bytes; a message within the rules, written, is read back as that message; and typed values are read as they were given.
+-- padding, is the same bytes; a message within the rules, written, is read back; the walk visits what was appended; and typed values are
+-- read as they were given. What each shuts out:
+--   a reader that refuses all                 `read-back`: a message that is right is read as whole
+--   a reader that calls all whole             `written-again`: of 19 bytes, or of a body with a rest, it is false
+--   a writer that changes nothing             `read-back`, and `appended-read` for an append
+--   a walk of one attribute and then the end  `appended-read`, and `covers` and `visited` of Covers.antt
+--   a made-up count                           `read-back`, and `count-told` of Covers.antt
+--   a constant fingerprint                    `stretch` of Stretch.antt, which it makes false
 use Prim.Native.Nat.{ℕ, _+_, _*_, _/_, _%_, _≤_, _<_}
 use mathlib.Core.List.{List, [], _∷_, _++_}
 use mathlib.Core.Bool.{Bool, true, false}
-use mathlib.Core.Path.{_≡_, refl, sym, ap, _∙_}
+use mathlib.Core.Path.{_≡_, refl, ap, _∙_}
 use native.Mathlib.Omega.{arith}
-use borrow.Author.Tests.{eq-eqb, eqb-true, ltb-false}
+use borrow.Author.Tests.{ltb-false}
 use lib.ListN.{length, take, drop}
-use lib.Dec.{eqb, ltb}
+use lib.Dec.{ltb}
 use Rattle.base.specs.Choice.{pick}
 use Rattle.base.specs.Bytes.{Bytes}
 use Rattle.wire.specs.declared.transaction_id.TransactionId.{TransactionId}
+use Rattle.net.specs.Net.{addressValue}
 use Rattle.net.specs.declared.SocketAddr.{SocketAddr}
+use Rattle.header.specs.Header.{frontOf}
+use Rattle.attribute.specs.Attribute.{Attr}
+use Rattle.attribute.specs.CoverLaws.{Visits}
 use Rattle.rfc5389.specs.Rows.{rfc5389}
 use Rattle.rfc5389.specs.Fault.{ruleOf, fault}
 use Rattle.rfc5389.specs.declared.Row.{Row}
+use Rattle.rfc5389.specs.declared.Rule.{Rule}
+use Rattle.rfc5389.specs.declared.Rule.the-variants as rule
+use Rattle.message.specs.Reading.{readingOf}
 use Rattle.message.specs.Whole.{Whole}
 use Rattle.message.specs.WholeLaws.{told}
 use Rattle.message.specs.declared.Reading.{Reading}
 use Rattle.typed.specs.Typed.{codeOf, without, saidBy, readOf, typedOf, partBy, partOf}
-use Rattle.typed.specs.Written.{addressBytes, Sound, mapped-back, alternate-back, xor-back}
+use Rattle.typed.specs.TypedLaws.{fields, part}
+use Rattle.typed.specs.Written.{Sound, mapped-back, alternate-back, xor-back}
 use Rattle.typed.specs.declared.Value.the-variants.{Code, Plain}
-use Rattle.append_typed.specs.Typed.{textNumber, refusal}
+use Rattle.begin.specs.declared.Written.the-variants.{Total}
+use Rattle.plan.specs.Plan.{sizeOf}
+use Rattle.append.specs.Append.{answer, appended}
+use Rattle.append.specs.AppendLaws.{total-goes}
+use Rattle.append_typed.specs.Typed.{textNumber, typed, refusal}
+use Rattle.append_typed.specs.TypedLaws.{no-fault}
 use Rattle.append_typed.specs.declared.TextKind.{TextKind}
 use Rattle.append_typed.specs.declared.TextKind.the-variants.{Username, Realm, Nonce, Software}
-use Rattle.addresses.specs.Address.{addressNumber, given, addressValue}
+use Rattle.addresses.specs.Address.{addressNumber, given}
+use Rattle.addresses.specs.AddressLaws.{address-passes, given-long}
 use Rattle.addresses.specs.declared.AddressKind.{AddressKind}
 use Rattle.addresses.specs.declared.AddressKind.the-variants.{MappedAddress, XorMappedAddress, AlternateServer}
 use Rattle.error_codes.specs.ErrorCode.{codeValue, codeRefusal}
+use Rattle.error_codes.specs.ErrorCodeLaws.{code-right}
 use Rattle.round_trip.specs.Message.{Message, bytesOf, messageOf, Shaped, write}
-use Rattle.round_trip.specs.Whole.{written-again, read-back}
+use Rattle.round_trip.specs.Whole as whole
+use Rattle.round_trip.specs.Whole.{Right, wholeWith}
+use Rattle.round_trip.specs.Appending as append
 
 -- a whole datagram, written again by begin and a raw append for each of its attributes, is the same bytes, in any buffer with room for it
-pub again : (rows : List Row) (d b : List ℕ) → Bytes d → Whole rows d → length d ≤ length b → take (length d) (write b (messageOf d)) ≡ d
-again rows d b h w room = written-again rows d h (ap (λ (r : Reading). r .answer) (told rows d w)) b room
+pub written-again : (rows : List Row) (d b : List ℕ) → Bytes d → Whole rows d → length d ≤ length b → take (length d) (write b (messageOf d)) ≡ d
+written-again rows d b h w room = whole.written-again rows d h (ap (λ (r : Reading). r .answer) (told rows d w)) b room
 
--- a message within the rules, written into such a buffer, is read back as that message; with `bijection` of round_trip the two are one
-pub back : (b : List ℕ) (m : Message) → Shaped m → length (bytesOf m) ≤ length b → messageOf (take (length (bytesOf m)) (write b m)) ≡ m
-back = read-back
+-- a message that is right, written into such a buffer, is read as whole, with its class, method, ID and number of attributes
+pub read-back : (rows : List Row) (b : List ℕ) (m : Message) → Right rows m → length (bytesOf m) ≤ length b
+    → readingOf rows (take (length (bytesOf m)) (write b m)) ≡ wholeWith m
+read-back = whole.read-back
 
--- a value that a typed append takes has none of the faults 11 to 14
-pub taken : (rows : List Row) (k : ℕ) (v : List ℕ) → refusal rows k v ≡ 0 → fault rows k v ≡ 0
-unfolding refusal
-taken rows k v e = go (eqb (fault rows k v) 0) refl e
-  where
-    go : (b : Bool) → eqb (fault rows k v) 0 ≡ b → _≡_ {A = ℕ} (pick b 0 23) 0 → fault rows k v ≡ 0
-    go true p q = eqb-true (fault rows k v) 0 p
-    go false p q = absurd (omega arith)
+-- and any message within the rules is that message again, right or not; with `bijection` of round_trip this and `written-again` are one
+pub message-back : (b : List ℕ) (m : Message) → Shaped m → length (bytesOf m) ≤ length b → messageOf (take (length (bytesOf m)) (write b m)) ≡ m
+message-back = whole.message-back
 
--- and is read as it was given: an address of each kind
+-- an attribute that an append puts behind a message: from place 20 the walk visits the earlier ones at their places, then the new one as it
+-- was given, then the end
+pub appended-read : (d : List ℕ) (f : ℕ) (a : Attr) {t : ℕ} → Bytes d → a .kind < 65536 → answer d f a ≡ Total t
+    → (xs : List (ℕ × Attr)) → Visits (take (sizeOf d) d) 20 xs → Visits (take t (appended d f a)) 20 (xs ++ ((sizeOf d, a) ∷ []))
+appended-read = append.appended-read
+
+-- the same of a typed append, and the value has none of the faults 11 to 14
+pub record Typed (rows : List Row) (d : List ℕ) (f k : ℕ) (v : List ℕ) (t : ℕ) : Type 1 where
+  pub visits : (xs : List (ℕ × Attr)) → Visits (take (sizeOf d) d) 20 xs → Visits (take t (appended d f (typed k v))) 20 (xs ++ ((sizeOf d, typed k v) ∷ []))
+  pub passes : fault rows k v ≡ 0
+
+module _ (d : List ℕ) (h : Bytes d) where
+  typed-read : (rows : List Row) (f k : ℕ) (v : List ℕ) {t : ℕ} → k < 65536 → (f ≡ 0 → fault rows k v ≡ 0) → answer d f (typed k v) ≡ Total t
+      → Typed rows d f k v t
+  unfolding typed
+  typed-read rows f k v l p e = record { visits = appended-read d f (typed k v) h l e; passes = p (total-goes d f (typed k v) e .2 .right) }
+
+  pub text-read : (k : TextKind) (v : List ℕ) {t : ℕ} → answer d (refusal rfc5389 (textNumber k) v) (typed (textNumber k) v) ≡ Total t
+      → Typed rfc5389 d (refusal rfc5389 (textNumber k) v) (textNumber k) v t
+  text-read k v e = typed-read rfc5389 (refusal rfc5389 (textNumber k) v) (textNumber k) v (low k) (no-fault rfc5389 (textNumber k) v) e
+    where
+      low : (k : TextKind) → textNumber k < 65536
+      low Username = omega arith
+      low Realm = omega arith
+      low Nonce = omega arith
+      low Software = omega arith
+
+  pub types-read : (v : List ℕ) {t : ℕ} → answer d (refusal rfc5389 0x000A v) (typed 0x000A v) ≡ Total t → Typed rfc5389 d (refusal rfc5389 0x000A v) 0x000A v t
+  types-read v e = typed-read rfc5389 (refusal rfc5389 0x000A v) 0x000A v (omega arith) (no-fault rfc5389 0x000A v) e
+
+  pub code-read : (c : ℕ) (s : List ℕ) {t : ℕ} → answer d (codeRefusal rfc5389 c s) (typed 0x0009 (codeValue c s)) ≡ Total t
+      → Typed rfc5389 d (codeRefusal rfc5389 c s) 0x0009 (codeValue c s) t
+  code-read c s e = typed-read rfc5389 (codeRefusal rfc5389 c s) 0x0009 (codeValue c s) (omega arith) (code-right rfc5389 c s) e
+
+  pub address-read : (k : AddressKind) (a : SocketAddr) {t : ℕ} → length (a .ip) ≡ 16
+      → answer d 0 (typed (addressNumber k) (addressValue (given k a (frontOf d .id)))) ≡ Total t
+      → Typed rfc5389 d 0 (addressNumber k) (addressValue (given k a (frontOf d .id))) t
+  address-read k a l e =
+      typed-read rfc5389 0 (addressNumber k) (addressValue (given k a (frontOf d .id))) (low k)
+      (λ z. address-passes k (given k a (frontOf d .id)) (given-long k a (frontOf d .id) l)) e
+    where
+      low : (k : AddressKind) → addressNumber k < 65536
+      low MappedAddress = omega arith
+      low XorMappedAddress = omega arith
+      low AlternateServer = omega arith
+
+-- what a typed append takes, typed reading gives back: an address of each kind
 pub address-back : (k : AddressKind) (a : SocketAddr) (id : TransactionId) → Sound a
     → typedOf rfc5389 (addressNumber k) (addressValue (given k a id)) id ≡ saidBy a
-unfolding addressValue addressBytes given
+unfolding given
 address-back MappedAddress a id s = mapped-back a id s
 address-back XorMappedAddress a id s = xor-back a id s
 address-back AlternateServer a id s = alternate-back a id s
 
--- a text of each kind, and a list of types
+-- a value that says no more than its bytes
+plain-back : (q : Rule) (k : ℕ) (v : List ℕ) (id : TransactionId) → ruleOf k ≡ q → readOf q k v id ≡ without Plain → partBy q v ≡ v
+    → refusal rfc5389 k v ≡ 0 → (typedOf rfc5389 k v id ≡ without Plain) × (partOf rfc5389 k v ≡ v)
+plain-back q k v id e r p f =
+    let z : fault rfc5389 k v ≡ 0 = no-fault rfc5389 k v f in
+    (fields rfc5389 k v z id ∙ ap (λ (x : Rule). readOf x k v id) e ∙ r, part rfc5389 k v z ∙ ap (λ (x : Rule). partBy x v) e ∙ p)
+
 pub text-back : (k : TextKind) (v : List ℕ) (id : TransactionId) → refusal rfc5389 (textNumber k) v ≡ 0
     → (typedOf rfc5389 (textNumber k) v id ≡ without Plain) × (partOf rfc5389 (textNumber k) v ≡ v)
-unfolding typedOf partOf readOf partBy ruleOf
-text-back Username v id e = let f : fault rfc5389 0x0006 v ≡ 0 = taken rfc5389 0x0006 v e in (rw f, rw f)
-text-back Realm v id e = let f : fault rfc5389 0x0014 v ≡ 0 = taken rfc5389 0x0014 v e in (rw f, rw f)
-text-back Nonce v id e = let f : fault rfc5389 0x0015 v ≡ 0 = taken rfc5389 0x0015 v e in (rw f, rw f)
-text-back Software v id e = let f : fault rfc5389 0x8022 v ≡ 0 = taken rfc5389 0x8022 v e in (rw f, rw f)
+unfolding readOf partBy ruleOf
+text-back k v id f = plain-back rule.Text (textNumber k) v id (is-text k) refl refl f
+  where
+    is-text : (k : TextKind) → ruleOf (textNumber k) ≡ rule.Text
+    is-text Username = refl
+    is-text Realm = refl
+    is-text Nonce = refl
+    is-text Software = refl
 
 pub types-back : (v : List ℕ) (id : TransactionId) → refusal rfc5389 0x000A v ≡ 0
     → (typedOf rfc5389 0x000A v id ≡ without Plain) × (partOf rfc5389 0x000A v ≡ v)
-unfolding typedOf partOf readOf partBy ruleOf
-types-back v id e = let f : fault rfc5389 0x000A v ≡ 0 = taken rfc5389 0x000A v e in (rw f, rw f)
+unfolding readOf partBy ruleOf
+types-back v id f = plain-back rule.Types 0x000A v id refl refl refl f
 
 -- an error code with its phrase
 pub code-back : (c : ℕ) (s : List ℕ) (id : TransactionId) → codeRefusal rfc5389 c s ≡ 0
@@ -86,7 +161,7 @@ code-back c s id e = low (ltb c 300) refl e
     high : 300 ≤ c → (b : Bool) → ltb 699 c ≡ b → _≡_ {A = ℕ} (pick b 23 (refusal rfc5389 0x0009 (0 ∷ 0 ∷ c / 100 ∷ c % 100 ∷ s))) 0
         → (typedOf rfc5389 0x0009 (0 ∷ 0 ∷ c / 100 ∷ c % 100 ∷ s) id ≡ without (Code c)) × (partOf rfc5389 0x0009 (0 ∷ 0 ∷ c / 100 ∷ c % 100 ∷ s) ≡ s)
     high l true p q = absurd (omega arith)
-    high l false p q = both l (ltb-false 699 c p) (taken rfc5389 0x0009 (0 ∷ 0 ∷ c / 100 ∷ c % 100 ∷ s) q)
+    high l false p q = both l (ltb-false 699 c p) (no-fault rfc5389 0x0009 (0 ∷ 0 ∷ c / 100 ∷ c % 100 ∷ s) q)
 
     low : (b : Bool) → ltb c 300 ≡ b
         → _≡_ {A = ℕ} (pick b 23 (pick (ltb 699 c) 23 (refusal rfc5389 0x0009 (0 ∷ 0 ∷ c / 100 ∷ c % 100 ∷ s)))) 0

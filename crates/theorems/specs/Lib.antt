@@ -1,5 +1,4 @@
 pub mod Sheet
-pub mod SheetTyped
 pub mod Alone
 pub mod Covers
 pub mod Served

@@ -15,8 +15,8 @@ use Rattle.wire.specs.declared.types.MessageClass.{MessageClass}
 use Rattle.attribute.specs.Attribute.{Attr}
 use Rattle.fingerprint.specs.Fingerprint.{fingerprintAt}
 use Rattle.rfc5389.specs.Rows.{rfc5389}
-use Rattle.message.specs.Reading.{readingOf, numberOf}
-use Rattle.message.specs.Whole as message
+use Rattle.message.specs.Reading.{readingOf}
+use Rattle.message.specs.WholeLaws.{told-whole}
 use Rattle.message.specs.declared.Answer.the-variants.{Whole}
 use Rattle.begin.specs.declared.Written.the-variants.{Total}
 use Rattle.plan.specs.Plan.{sizeOf}
@@ -26,7 +26,7 @@ use Rattle.append.specs.AppendLaws.{total-goes}
 use Rattle.seal.specs.Seal.{fingerprint}
 use Rattle.round_trip.specs.Message.{Message, bytesOf, messageOf, Octets, Writable}
 use Rattle.round_trip.specs.Bijection.{bijection}
-use Rattle.round_trip.specs.Appending.{with, held, held-sound, with-shaped, appended-bytes, appended-read}
+use Rattle.round_trip.specs.Appending.{with, held, held-sound, with-shaped, appended-bytes, appended-message}
 use Rattle.round_trip.specs.Sealed.{sealed}
 use Rattle.theorems.specs.Stretch.{Ends}
 
@@ -84,12 +84,12 @@ module _ (d : List ℕ) {t : ℕ} (h : Bytes d) (e : answer d 0 (fingerprint d) 
 
   pub sealed-ends : {c : MessageClass} {m : Method} {n : ℕ} → readingOf rfc5389 (take (sizeOf d) d) .answer ≡ Whole c m n
       → Ends rfc5389 (take t (appended d 0 (fingerprint d)))
-  unfolding message.Whole numberOf messageOf fingerprint
+  unfolding messageOf fingerprint
   sealed-ends w = record {
     bytes = subst (λ (x : List ℕ). Bytes x) (sym (appended-bytes d 0 (fingerprint d) h low e)) (bijection .0 N writable .0 .octets);
-    whole = ap numberOf (sealed d h e w);
+    whole = told-whole rfc5389 (take t (appended d 0 (fingerprint d))) (sealed d h e w);
     before = held d .attributes;
     print = fingerprint d;
-    last = ap (λ (m : Message). m .attributes) (appended-read d 0 (fingerprint d) h low e);
+    last = ap (λ (m : Message). m .attributes) (appended-message d 0 (fingerprint d) h low e);
     kind = refl;
   }

@@ -16,12 +16,12 @@ use Rattle.rfc5389.specs.Fault.{ruleOf, ruleFault, sizeFault, fault}
 use Rattle.rfc5389.specs.declared.Row.{Row}
 use Rattle.value.specs.First.{starts, first}
 use Rattle.value.specs.WholeLaws.{served}
-use Rattle.typed.specs.Typed.{typedOf, numberOf}
+use Rattle.typed.specs.Typed.{typedSaid, typedOf}
 use Rattle.typed.specs.TypedLaws.{typed-number}
 
 -- over any list of types, for every type and ID
 pub taken : (rows : List Row) (k : ℕ) (d : List ℕ) {p : ℕ} {a : Attr} (id : TransactionId) → first rows k d ≡ starts p a
-    → numberOf (typedOf rows k (a .value) id .value) ≡ 0
+    → typedSaid (typedOf rows k (a .value) id) .number ≡ 0
 taken rows k d {p} {a} id e = typed-number rows k (a .value) id ∙ served rows k d e
 
 -- so of the first REALM: it has at most 127 bytes and is UTF-8

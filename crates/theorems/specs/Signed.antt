@@ -27,7 +27,7 @@ use Rattle.integrity.specs.Integrity.{integrityFault}
 use Rattle.integrity.specs.IntegrityLaws.{signed-0}
 use Rattle.seal.specs.Seal.{integrity}
 use Rattle.round_trip.specs.Message.{Message, messageOf}
-use Rattle.round_trip.specs.Appending.{held, held-length, appended-read}
+use Rattle.round_trip.specs.Appending.{held, held-length, appended-message}
 use Rattle.round_trip.specs.Sealed.{low, signed, signed-whole}
 
 -- behind attributes with none of a type, one of it is the first
@@ -56,7 +56,7 @@ module _ (key d : List ℕ) {t : ℕ} (h : Bytes d) (e : answer d 0 (integrity k
   found : firstIn 0x0008 (take (sizeOf d) d) ≡ none → firstIn 0x0008 (take t (appended d 0 (integrity key d))) ≡ starts (sizeOf d) (integrity key d)
   unfolding firstIn messageOf
   found f =
-      ap (λ (m : Message). firstFrom 0x0008 20 (m .attributes)) (appended-read d 0 (integrity key d) h (low key d h e) e)
+      ap (λ (m : Message). firstFrom 0x0008 20 (m .attributes)) (appended-message d 0 (integrity key d) h (low key d h e) e)
       ∙ first-behind 0x0008 20 (held d .attributes) (integrity key d) kind-is f
       ∙ ap (λ (n : ℕ). starts (20 + n) (integrity key d)) (held-length d h there)
 

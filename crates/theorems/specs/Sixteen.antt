@@ -34,8 +34,8 @@ use Rattle.rfc5389.specs.declared.Rule.the-variants.{Address, Text, Code, Types
 use Rattle.rfc5389.specs.declared.Sizes.{Sizes}
 use Rattle.rfc5389.specs.declared.Sizes.the-variants.{Between, Unknown}
 use Rattle.fingerprints.specs.Fingerprints.{printFault, printFaults}
-use Rattle.message.specs.Reading.{valueFaults, andThen, outcome, answered, readingOf, numberOf}
-use Rattle.message.specs.WholeLaws.{judged-answer, refused-answer}
+use Rattle.message.specs.Reading.{valueFaults, andThen, outcome, answered, answerSaid, readingSaid, readingOf}
+use Rattle.message.specs.WholeLaws.{number-by, judged-answer, refused-answer}
 
 -- the header's numbers and those of values are smaller
 record Small (n : ℕ) : Type 0 where
@@ -150,22 +150,22 @@ module _ (rows : List Row) (four-only : look rows 0x8028 ≡ Between 4 4) where
 
   module _ (d : List ℕ) (h : Bytes d) where
     scans : headerFault d ≡ 0 → (c : MessageClass) (m : Method) (s t : Scan) → s ≡ scanned (valueFaults rows) d → t ≡ scanned (printFaults d) d
-        → numberOf (answered c m (andThen s t)) ≡ 16 → ⊥
-    unfolding scanned numberOf
-    scans z c m (Passed n) (Passed k) e f q = omega arith
-    scans z c m (Passed n) (Fault r p) e f q = prints-sixteen d h z (sym e) (sym f ∙ ap (λ (x : ℕ). Fault x p) q)
-    scans z c m (Fault r p) t e f q =
+        → (i : List ℕ) → answerSaid (answered c m (andThen s t)) i .number ≡ 16 → ⊥
+    unfolding scanned answerSaid
+    scans z c m (Passed n) (Passed k) e f i q = omega arith
+    scans z c m (Passed n) (Fault r p) e f i q = prints-sixteen d h z (sym e) (sym f ∙ ap (λ (x : ℕ). Fault x p) q)
+    scans z c m (Fault r p) t e f i q =
         omega (arith, scan-small (valueFaults rows) (values-small rows) 0 20 (parse 0 (drop 20 d)) (sym e))
 
-    pub no-sixteen : numberOf (readingOf rows d .answer) ≡ 16 → ⊥
-    unfolding outcome numberOf
+    pub no-sixteen : readingSaid (readingOf rows d) .number ≡ 16 → ⊥
+    unfolding outcome answerSaid
     no-sixteen w = by (decLt 0 (headerFault d))
       where
         by : Dec (0 < headerFault d) → ⊥
-        by (yes l) = omega (arith, header-small d .is, sym (ap numberOf (refused-answer rows d l)) ∙ w)
+        by (yes l) = omega (arith, header-small d .is, sym (number-by rows d (refused-answer rows d l)) ∙ w)
         by (no l) =
             let z : headerFault d ≡ 0 = omega arith in
-            scans z _ _ _ _ refl refl (sym (ap numberOf (judged-answer rows d z)) ∙ w)
+            scans z _ _ _ _ refl refl _ (sym (number-by rows d (judged-answer rows d z)) ∙ w)
 
 pub rfc5389-four : look rfc5389 0x8028 ≡ Between 4 4
 unfolding look

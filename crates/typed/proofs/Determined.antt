@@ -6,6 +6,7 @@ use Rattle.base.specs.Determined.{Determines, by}
 use Rattle.wire.specs.declared.transaction_id.TransactionId.{TransactionId}
 use Rattle.rfc5389.specs.Rows.{rfc5389}
 use Rattle.typed.specs.Typed.{typedOf, partOf, partAt}
+use Rattle.typed.specs.SaidLaws.{typed-one}
 use Rattle.typed.specs.declared.Typed.{Typed}
 use Rattle.typed.proofs.value_of.Kinds as value
 use Rattle.typed.proofs.value_of.Reads as value-reads
@@ -15,7 +16,7 @@ use Rattle.typed.proofs.part_of.Reads as part-reads
 pub determined-value-of : Determines value.ps value.r {I = ℕ × List ℕ × TransactionId} {A = Typed} value-reads.Asked value-reads.Learnt
     (λ κs a. (a .0, a .1 .0 .now, a .1 .1 .0)) (λ κs z e. z)
 determined-value-of =
-    by value.ps value.r value-reads.Asked value-reads.Learnt _ _ (λ x. typedOf rfc5389 (x .0) (x .1) (x .2)) (λ κs a y d i q. q)
+    by value.ps value.r value-reads.Asked value-reads.Learnt _ _ (λ x. typedOf rfc5389 (x .0) (x .1) (x .2)) (λ κs a y d i q. typed-one q)
 
 pub determined-part-of : Determines part.ps part.r {I = ℕ × List ℕ × (ℕ × ℕ)} {A = List ℕ × (ℕ × ℕ)} part-reads.Asked part-reads.Learnt
     (λ κs a. (a .0, a .1 .0 .now, a .1 .0 .ptr)) (λ κs z e. (z .now, z .ptr))

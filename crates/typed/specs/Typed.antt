@@ -1,9 +1,10 @@
 -- Typed reading: what a value says, by its type (RFC 5389 sections 15.1, 15.2 and 15.6; docs/SCOPE.md, "Typed reading").
 use Prim.Native.Nat.{ℕ, _+_, _*_, _%_}
-use mathlib.Core.List.{List, []}
+use mathlib.Core.List.{List, [], _∷_}
 use lib.ListN.{getD, drop, replicate}
 use lib.Dec.{eqb}
 use Rattle.base.specs.Choice.{pick}
+use Rattle.base.specs.Said.{Said, says}
 use Rattle.numbers.specs.Numbers.{be16}
 use Rattle.buffers.specs.Put.{put}
 use Rattle.wire.specs.declared.transaction_id.TransactionId.{TransactionId}
@@ -18,6 +19,16 @@ use Rattle.rfc5389.specs.declared.Rule.the-variants as rule
 use Rattle.typed.specs.declared.Value.{Value}
 use Rattle.typed.specs.declared.Value.the-variants.{Address, Code, Plain, Refused}
 use Rattle.typed.specs.declared.Typed.{Typed}
+
+-- what an answer says: an address, with family and port; a code; plain bytes; or refused by 11 to 14; and the 16 bytes of the IP
+unfoldable pub valueSaid : Value → List ℕ → Said
+valueSaid (Address f p) i = says 0 0 (familyNumber f ∷ p ∷ i)
+valueSaid (Code c) i = says 1 0 (c ∷ i)
+valueSaid Plain i = says 2 0 i
+valueSaid (Refused n) i = says 3 n i
+
+unfoldable pub typedSaid : Typed → Said
+typedSaid t = valueSaid (t .value) (t .ip)
 
 abbrev pub familyNumbered : ℕ → Family
 familyNumbered n = pick (eqb n 1) Ipv4 Ipv6
@@ -78,16 +89,3 @@ startBy rule.Plain = 0
 
 unfoldable pub partAt : List Row → ℕ → List ℕ → ℕ
 partAt rows k v = pick (eqb (fault rows k v) 0) (startBy (ruleOf k)) 0
-
--- what each answer says, in numbers: the number (0 where it is none of 11 to 14), family, port and code; all else nought
-unfoldable pub numberOf : Value → ℕ
-numberOf (Address f p) = 0
-numberOf (Code c) = 0
-numberOf Plain = 0
-numberOf (Refused n) = n
-
-unfoldable pub valuesOf : Value → ℕ × ℕ × ℕ
-valuesOf (Address f p) = (familyNumber f, p, 0)
-valuesOf (Code c) = (0, 0, c)
-valuesOf Plain = (0, 0, 0)
-valuesOf (Refused n) = (0, 0, 0)

@@ -12,11 +12,11 @@ use Rattle.rfc5389.specs.declared.Row.{Row}
 use Rattle.rfc5389.specs.declared.Rule.{Rule}
 use Rattle.rfc5389.specs.declared.Rule.the-variants.{Address, Text, Code, Types, Plain}
 use Rattle.typed.specs.declared.Value.the-variants.{Refused}
-use Rattle.typed.specs.Typed.{without, saidBy, readOf, typedOf, partBy, partOf, numberOf}
+use Rattle.typed.specs.Typed.{without, saidBy, readOf, typedOf, partBy, partOf, valueSaid, typedSaid}
 
 -- a value without fault is read
-read-number : (q : Rule) (k : ℕ) (v : List ℕ) (id : TransactionId) → numberOf (readOf q k v id .value) ≡ 0
-unfolding readOf numberOf saidBy
+read-number : (q : Rule) (k : ℕ) (v : List ℕ) (id : TransactionId) → typedSaid (readOf q k v id) .number ≡ 0
+unfolding readOf valueSaid typedSaid saidBy
 read-number Address k v id = refl
 read-number Text k v id = refl
 read-number Code k v id = refl
@@ -24,12 +24,12 @@ read-number Types k v id = refl
 read-number Plain k v id = refl
 
 -- the number is the reader's own, over the list of types
-pub typed-number : (rows : List Row) (k : ℕ) (v : List ℕ) (id : TransactionId) → numberOf (typedOf rows k v id .value) ≡ fault rows k v
-unfolding typedOf numberOf
+pub typed-number : (rows : List Row) (k : ℕ) (v : List ℕ) (id : TransactionId) → typedSaid (typedOf rows k v id) .number ≡ fault rows k v
+unfolding typedOf valueSaid typedSaid
 typed-number rows k v id = go (eqb (fault rows k v) 0) refl
   where
     go : (b : Bool) → eqb (fault rows k v) 0 ≡ b
-        → numberOf (pick b (readOf (ruleOf k) k v id) (without (Refused (fault rows k v))) .value) ≡ fault rows k v
+        → typedSaid (pick b (readOf (ruleOf k) k v id) (without (Refused (fault rows k v)))) .number ≡ fault rows k v
     go true e = read-number (ruleOf k) k v id ∙ sym (eqb-true (fault rows k v) 0 e)
     go false e = refl
 

@@ -11,37 +11,23 @@ use Rattle.numbers.specs.Numbers.{be16, two}
 use Rattle.buffers.specs.Put.{fitsAt, put}
 use Rattle.constants.specs.Cookie.{cookie}
 use Rattle.wire.specs.declared.transaction_id.TransactionId.{TransactionId}
-use Rattle.net.specs.Net.{familyNumber, ipSize, xored, addrXor}
+use Rattle.net.specs.Net.{familyNumber, ipSize, xored, addrXor, addressValue}
 use Rattle.net.specs.NetLaws.{length-xored, addr-twice}
 use Rattle.net.specs.declared.Family.{Family}
 use Rattle.net.specs.declared.Family.the-variants.{Ipv4, Ipv6}
 use Rattle.net.specs.declared.SocketAddr.{SocketAddr}
 use Rattle.rfc5389.specs.Rows.{look, rfc5389}
-use Rattle.rfc5389.specs.Fault.{ruleOf, addressFault, ruleFault, sizeFault, fault}
+use Rattle.rfc5389.specs.Fault.{ruleOf, fault}
+use Rattle.rfc5389.specs.AddressLaws.{ip-small, ip-length, address-right}
 use Rattle.rfc5389.specs.declared.Rule.the-variants.{Address}
 use Rattle.rfc5389.specs.declared.Sizes.the-variants.{Between}
 use Rattle.typed.specs.Typed.{familyNumbered, ipOf, addressOf, saidBy, plainOf, readOf, typedOf}
 use Rattle.typed.specs.TypedLaws.{fields}
 
--- a nought, the family, the port, and as many IP bytes as the family has
-unfoldable pub addressBytes : SocketAddr → List ℕ
-addressBytes a = 0 ∷ familyNumber (a .family) ∷ two (a .port) ++ take (ipSize (a .family)) (a .ip)
-
 -- the IP stands in 16 bytes, with noughts behind it
 pub record Sound (a : SocketAddr) : Type 0 where
   pub size : length (a .ip) ≡ 16
   pub behind : drop (ipSize (a .family)) (a .ip) ≡ drop (ipSize (a .family)) (replicate 16 0)
-
--- as has 192.0.2.1, and every address of 16 bytes of IP
-pub sound-4 : Sound (record { family = Ipv4; port = 32853; ip = 192 ∷ 0 ∷ 2 ∷ 1 ∷ replicate 12 0 })
-sound-4 = record { size = refl; behind = refl }
-
-pub sound-16 : (p : ℕ) (ip : List ℕ) → length ip ≡ 16 → Sound (record { family = Ipv6; port = p; ip = ip })
-sound-16 p ip e = record { size = e; behind = drop-of-length-le ip {i = 16} (omega arith) }
-
-small : (f : Family) → ipSize f ≤ 16
-small Ipv4 = omega arith
-small Ipv6 = omega arith
 
 same-family : (f : Family) → familyNumbered (familyNumber f) ≡ f
 same-family Ipv4 = refl
@@ -54,57 +40,35 @@ module _ (a : SocketAddr) (s : Sound a) where
   abbrev ipBytes : List ℕ
   ipBytes = take (ipSize (a .family)) (a .ip)
 
-  taken : length ipBytes ≡ ipSize (a .family)
-  taken = simp length-take (omega (arith, small (a .family), s .size))
-
   same-ip : put noughts 0 ipBytes ≡ a .ip
   unfolding put fitsAt
   same-ip =
-      let r : 0 + length ipBytes ≤ length noughts = omega (arith, small (a .family), taken) in
-      let n : 0 + length ipBytes ≡ ipSize (a .family) = omega (arith, taken) in
+      let n : 0 + length ipBytes ≡ ipSize (a .family) = omega (arith, ip-length a (s .size)) in
+      let r : 0 + length ipBytes ≤ length noughts = omega (arith, ip-small (a .family)) in
       simp (le-leb (0 + length ipBytes) (length noughts) r)
       (laid-is noughts 0 ipBytes r ∙ ap (λ (m : ℕ). ipBytes ++ drop m noughts) n
       ∙ ap (λ (t : List ℕ). ipBytes ++ t) (sym (s .behind)) ∙ take-append-drop (ipSize (a .family)) (a .ip))
 
   -- over the size of the IP
-  pub address-back : addressOf (addressBytes a) ≡ a
-  unfolding addressOf addressBytes ipOf be16
+  pub address-back : addressOf (addressValue a) ≡ a
+  unfolding addressOf addressValue ipOf be16
   address-back =
       let p : a .port / 256 * 256 + a .port % 256 ≡ a .port = omega arith in
       rw (same-family (a .family), p, same-ip)
 
-  long : length (addressBytes a) ≡ 4 + ipSize (a .family)
-  unfolding addressBytes
-  long = omega (arith, taken)
-
--- what an address is written as is an address
-pair : (v : List ℕ) (f : Family) → length v ≡ 4 + ipSize f → getD v 1 0 ≡ familyNumber f → addressFault v ≡ 0
-unfolding addressFault
-pair v Ipv4 e g = rw (e, g)
-pair v Ipv6 e g = rw (e, g)
-
-bounds : (v : List ℕ) (f : Family) → length v ≡ 4 + ipSize f → sizeFault (Between 8 20) Address v ≡ addressFault v
-unfolding sizeFault ruleFault
-bounds v Ipv4 e = rw e
-bounds v Ipv6 e = rw e
-
-no-fault : (a : SocketAddr) → Sound a → sizeFault (Between 8 20) Address (addressBytes a) ≡ 0
-unfolding addressBytes
-no-fault a s = bounds (addressBytes a) (a .family) (long a s) ∙ pair (addressBytes a) (a .family) (long a s) refl
-
 -- any address that is written is read, and the XOR form of a type that has it is undone
 written : (k : ℕ) (a : SocketAddr) (id : TransactionId) → Sound a → look rfc5389 k ≡ Between 8 20 → ruleOf k ≡ Address
-    → typedOf rfc5389 k (addressBytes a) id ≡ saidBy (plainOf k a id)
+    → typedOf rfc5389 k (addressValue a) id ≡ saidBy (plainOf k a id)
 unfolding fault readOf
 written k a id s e f =
-    let z : fault rfc5389 k (addressBytes a) ≡ 0 = rw (e, f) (no-fault a s) in
-    fields rfc5389 k (addressBytes a) z id ∙ rw (f, address-back a s)
+    let z : fault rfc5389 k (addressValue a) ≡ 0 = rw (e, f) (address-right a (s .size)) in
+    fields rfc5389 k (addressValue a) z id ∙ rw (f, address-back a s)
 
-pub mapped-back : (a : SocketAddr) (id : TransactionId) → Sound a → typedOf rfc5389 0x0001 (addressBytes a) id ≡ saidBy a
+pub mapped-back : (a : SocketAddr) (id : TransactionId) → Sound a → typedOf rfc5389 0x0001 (addressValue a) id ≡ saidBy a
 unfolding look ruleOf plainOf
 mapped-back a id s = written 0x0001 a id s refl refl
 
-pub alternate-back : (a : SocketAddr) (id : TransactionId) → Sound a → typedOf rfc5389 0x8023 (addressBytes a) id ≡ saidBy a
+pub alternate-back : (a : SocketAddr) (id : TransactionId) → Sound a → typedOf rfc5389 0x8023 (addressValue a) id ≡ saidBy a
 unfolding look ruleOf plainOf
 alternate-back a id s = written 0x8023 a id s refl refl
 
@@ -125,6 +89,6 @@ xor-sound a id s = record {
 }
 
 -- the XOR form read gives back what was written, for any address and ID
-pub xor-back : (a : SocketAddr) (id : TransactionId) → Sound a → typedOf rfc5389 0x0020 (addressBytes (addrXor a id)) id ≡ saidBy a
+pub xor-back : (a : SocketAddr) (id : TransactionId) → Sound a → typedOf rfc5389 0x0020 (addressValue (addrXor a id)) id ≡ saidBy a
 unfolding look ruleOf plainOf
 xor-back a id s = written 0x0020 (addrXor a id) id (xor-sound a id s) refl refl ∙ ap saidBy (addr-twice a id)

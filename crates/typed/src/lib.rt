@@ -3,7 +3,7 @@ ghost use mathlib.Core.Path.{_≡_};
 ghost use Prim.Native.Nat.{_+_};
 ghost use lib.ListN.{getD};
 ghost use Rattle.rfc5389.specs.Rows.{rfc5389};
-ghost use Rattle.typed.specs.Typed.{familyNumbered, ipOf, addressOf, without, saidBy, plainOf, typedOf, partOf, partAt};
+ghost use Rattle.typed.specs.Typed.{typedSaid, familyNumbered, ipOf, addressOf, without, saidBy, plainOf, typedOf, partOf, partAt};
 use net::Family;
 use net::SocketAddr;
 use net::socket_addr_xor;
@@ -101,7 +101,7 @@ fn plain(kind: u16, addr: SocketAddr, id: TransactionId) -> SocketAddr
 
 // What a value of a type says: its fields, or 11 to 14 just as the reader would give. A type that the list doesn't have is plain.
 pub fn value_of(kind: u16, value: &[u8], id: TransactionId) -> Typed
-    ensures { λ r. ⌜ r ≡ typedOf rfc5389 kind (now (value .entry)) id ⌝ }
+    ensures { λ r. ⌜ typedSaid r ≡ typedSaid (typedOf rfc5389 kind (now (value .entry)) id) ⌝ }
 {
     let number = rfc5389::fault(kind, value);
     if number != 0 {

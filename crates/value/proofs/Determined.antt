@@ -6,6 +6,7 @@ use mathlib.Core.Path.{ap₂}
 use Rattle.base.specs.Determined.{Determines, by}
 use Rattle.rfc5389.specs.Rows.{rfc5389}
 use Rattle.value.specs.First.{firstIn, first, placed, isThere, valueOf, valueAt}
+use Rattle.value.specs.SaidLaws.{first-one}
 use Rattle.value.specs.declared.First.{First}
 use Rattle.value.proofs.search.Kinds as search
 use Rattle.value.proofs.search.Reads as search-reads
@@ -19,12 +20,12 @@ use Rattle.value.proofs.first_value.Reads as value-reads
 pub determined-search : Determines search.ps search.r {I = List ℕ × ℕ} {A = First} search-reads.Asked search-reads.Learnt
     (λ κs a. (a .0 .now, a .1 .0)) (λ κs z e. z)
 determined-search =
-    by search.ps search.r search-reads.Asked search-reads.Learnt _ _ (λ x. placed (firstIn (x .1) (x .0))) (λ κs a y d i q. q)
+    by search.ps search.r search-reads.Asked search-reads.Learnt _ _ (λ x. placed (firstIn (x .1) (x .0))) (λ κs a y d i q. first-one q)
 
 pub determined-find : Determines find.ps find.r {I = List ℕ × ℕ} {A = First} find-reads.Asked find-reads.Learnt
     (λ κs a. (a .0 .now, a .1 .0)) (λ κs z e. z)
 determined-find =
-    by find.ps find.r find-reads.Asked find-reads.Learnt _ _ (λ x. placed (first rfc5389 (x .1) (x .0))) (λ κs a y d i q. q)
+    by find.ps find.r find-reads.Asked find-reads.Learnt _ _ (λ x. placed (first rfc5389 (x .1) (x .0))) (λ κs a y d i q. first-one q)
 
 pub determined-has : Determines has.ps has.r {I = List ℕ × ℕ} {A = Bool} has-reads.Asked has-reads.Learnt
     (λ κs a. (a .0 .now, a .1 .0)) (λ κs z e. z)

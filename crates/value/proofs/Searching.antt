@@ -1,21 +1,17 @@
 -- The search for a type: what holds at a place, and how a step carries it on.
 use Prim.Native.Nat.{ℕ, _-_, _<_}
-use mathlib.Core.List.{List, [], _∷_}
-use mathlib.Core.Logic.{⊎-elim}
+use mathlib.Core.List.{List, _∷_}
 use mathlib.Core.Path.{_≡_, refl, sym, ap, _∙_}
 use native.Mathlib.Omega.{arith}
 use borrow.Author.Tests.{eq-eqb, ne-eqb}
 use lib.ListN.{length, take, drop, length-take, length-drop}
-use types.Run.{OneOf}
-use denote.Enum.Declared.{tagOf, declared}
-use Rattle.attribute.proofs.Walk.{enum}
 use Rattle.attribute.specs.Attribute.{Body, attrs, parse}
 use Rattle.attribute.specs.Walk.{stepAt}
-use Rattle.attribute.specs.WalkLaws.{Ahead, ahead, seen}
-use Rattle.attribute.specs.BodyLaws.{body-seen}
+use Rattle.attribute.specs.WalkLaws.{Ahead, ahead, Stops, seen}
+use Rattle.attribute.specs.BodyLaws.{body-seen, stopped}
 use Rattle.attribute.specs.ScanLaws as scanning
 use Rattle.attribute.specs.declared.Walk.{Walk}
-use Rattle.attribute.specs.declared.Walk.the-variants.{Attribute, End, Cut}
+use Rattle.attribute.specs.declared.Walk.the-variants.{Attribute}
 use Rattle.value.specs.declared.First.the-variants.{Found, Absent}
 use Rattle.value.specs.First.{Place, starts, firstFrom, firstIn, placed}
 
@@ -43,7 +39,7 @@ module _ {d : List ℕ} {k at q j v n x : ℕ} {w : Walk} (g : Searching d k at)
   unfolding firstFrom
   turn ne = record {
     same =
-        ap (λ (y : ℕ). firstFrom k y (attrs (parse 0 (drop x d)))) (sym (scanning.long j inside)) ∙ sym (here ∙ simp (ne-eqb j k ne)) ∙ g .same;
+        ap (λ (y : ℕ). firstFrom k y (attrs (parse 0 (drop x d)))) (sym (scanning.found-length j inside)) ∙ sym (here ∙ simp (ne-eqb j k ne)) ∙ g .same;
   }
 
   pub found : j ≡ k → Found at n ≡ placed (firstIn k d)
@@ -54,9 +50,6 @@ module _ {d : List ℕ} {k at q j v n x : ℕ} {w : Walk} (g : Searching d k at)
       ap (λ (m : ℕ). Found at m) (sym s) ∙ ap placed (sym t ∙ g .same)
 
 -- the step is no attribute
-pub none-left : {d : List ℕ} {k at : ℕ} (w : Walk) → OneOf (1 ∷ 2 ∷ []) (tagOf (declared enum) w) → Searching d k at → w ≡ stepAt d at
-    → Absent ≡ placed (firstIn k d)
+pub none-left : {d : List ℕ} {k at : ℕ} {w : Walk} → Stops w → Searching d k at → w ≡ stepAt d at → Absent ≡ placed (firstIn k d)
 unfolding firstFrom placed
-none-left (Attribute p j v n x) t g e = absurd (⊎-elim (λ z. omega arith) (λ z. omega arith) t)
-none-left {d} {k} {at} (End q) t g e = ap placed (sym (ap (λ (y : Body). firstFrom k at (attrs y)) (body-seen d at e)) ∙ g .same)
-none-left {d} {k} {at} (Cut q) t g e = ap placed (sym (ap (λ (y : Body). firstFrom k at (attrs y)) (body-seen d at e)) ∙ g .same)
+none-left {d} {k} {at} s g e = ap placed (sym (ap (λ (y : Body). firstFrom k at (attrs y)) (stopped d at s e)) ∙ g .same)

@@ -5,6 +5,7 @@ use mathlib.Core.Bool.{Bool, true, false}
 use lib.ListN.{length, drop}
 use lib.Dec.{eqb}
 use Rattle.base.specs.Choice.{pick}
+use Rattle.base.specs.Said.{Said, says}
 use Rattle.attribute.specs.Attribute.{Attr, attrs, bytesOf, parse}
 use Rattle.rfc5389.specs.declared.Row.{Row}
 use Rattle.message.specs.Reading.{readingOf}
@@ -12,6 +13,11 @@ use Rattle.message.specs.declared.Answer.{Answer}
 use Rattle.message.specs.declared.Answer.the-variants.{Whole, Broken, Refused}
 use Rattle.value.specs.declared.First.{First}
 use Rattle.value.specs.declared.First.the-variants.{Found, Absent}
+
+-- what an answer says: found, with the place of the attribute and the size of its value, or absent
+unfoldable pub firstSaid : First → Said
+firstSaid (Found p n) = says 0 0 (p ∷ n ∷ [])
+firstSaid Absent = says 1 0 []
 
 -- nothing, or an attribute and the place where it starts
 pub data Place : Type 0 where

@@ -60,7 +60,7 @@ seen-here k {d} {p} {q} {v} {n} {x} g =
     record {
       inside = omega (arith, g, i);
       value = rw (i, ← g .value-at);
-      rest = ap (λ (y : ℕ). parse 0 (drop y d)) (scanning.long k g);
+      rest = ap (λ (y : ℕ). parse 0 (drop y d)) (scanning.found-length k g);
     }
 
 as-found : (k : ℕ) {d : List ℕ} {p q v n x : ℕ} {a : Attr} {b : Body} → Ahead d p q v n x → more (scanning.found d k v n x) (parse 0 (drop x d)) ≡ more a b

@@ -1,3 +1,4 @@
 pub mod First
+pub mod SaidLaws
 pub mod FirstLaws
 pub mod WholeLaws

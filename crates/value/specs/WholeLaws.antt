@@ -10,7 +10,7 @@ use Rattle.attribute.specs.Attribute.{Attr, bytesOf}
 use Rattle.attribute.specs.PassLaws.{Pass}
 use Rattle.rfc5389.specs.Fault.{fault}
 use Rattle.rfc5389.specs.declared.Row.{Row}
-use Rattle.message.specs.Reading.{valueFaults, readingOf, numberOf}
+use Rattle.message.specs.Reading.{answerSaid, readingSaid, valueFaults, readingOf}
 use Rattle.message.specs.Whole.{Whole, attributes}
 use Rattle.message.specs.WholeLaws.{Parts, parts, told}
 use Rattle.message.specs.declared.Answer.{Answer}
@@ -25,15 +25,15 @@ no e = let z : _≡_ {A = ℕ} 0 1 = cc in omega arith
 module _ (rows : List Row) (d : List ℕ) where
   -- whole by the answer, and whole by its number
   pub yes-whole : isWhole rows d ≡ true → Whole rows d
-  unfolding isWhole Whole numberOf
+  unfolding isWhole Whole readingSaid answerSaid
   yes-whole e = go (readingOf rows d .answer) e
     where
-      go : (a : Answer) → wholeBy a ≡ true → numberOf a ≡ 0
+      go : (a : Answer) → wholeBy a ≡ true → answerSaid a (readingOf rows d .id .bytes) .number ≡ 0
       go (answer.Whole c m n) f = refl
       go (answer.Broken c m r p) f = absurd (no f)
       go (answer.Refused n) f = absurd (no f)
 
-  pub number-whole : numberOf (readingOf rows d .answer) ≡ 0 → isWhole rows d ≡ true
+  pub number-whole : readingSaid (readingOf rows d) .number ≡ 0 → isWhole rows d ≡ true
   unfolding isWhole Whole
   number-whole e = ap (λ (r : Reading). wholeBy (r .answer)) (told rows d e)
 

@@ -2,7 +2,7 @@
 ghost use mathlib.Core.Path.{_≡_};
 ghost use Prim.Native.Nat.{_+_};
 ghost use Rattle.rfc5389.specs.Rows.{rfc5389};
-ghost use Rattle.value.specs.First.{firstIn, first, placed, isThere, valueOf, valueAt};
+ghost use Rattle.value.specs.First.{firstSaid, firstIn, first, placed, isThere, valueOf, valueAt};
 use attribute::Walk;
 use attribute::step;
 use message::Answer;
@@ -15,7 +15,7 @@ pub enum First {
 
 // The first attribute of a type as far as the walk from place 20 goes, whatever else the bytes are.
 pub fn search(d: &[u8], kind: u16) -> First
-    ensures { λ r. ⌜ r ≡ placed (firstIn kind (now (d .entry))) ⌝ }
+    ensures { λ r. ⌜ firstSaid r ≡ firstSaid (placed (firstIn kind (now (d .entry)))) ⌝ }
 {
     let mut at = 20;
     loop {
@@ -39,7 +39,7 @@ pub fn search(d: &[u8], kind: u16) -> First
 
 // The first attribute of a type in a datagram; absent where the datagram is not whole.
 pub fn find(d: &[u8], kind: u16) -> First
-    ensures { λ r. ⌜ r ≡ placed (first rfc5389 kind (now (d .entry))) ⌝ }
+    ensures { λ r. ⌜ firstSaid r ≡ firstSaid (placed (first rfc5389 kind (now (d .entry)))) ⌝ }
 {
     let r = message::read(d);
     let answer = r.answer;

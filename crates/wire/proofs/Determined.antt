@@ -2,6 +2,7 @@
 use Prim.Native.Nat.{ℕ}
 use Rattle.base.specs.Determined.{Determines, by}
 use Rattle.wire.specs.TypeNumber.{classNumber, methodMade, typeNumber, typeFrom}
+use Rattle.wire.specs.SaidLaws.{new-method-one, type-number-one, from-number-one}
 use Rattle.wire.specs.declared.method.Method.{Method}
 use Rattle.wire.specs.declared.method.NewMethod.{NewMethod}
 use Rattle.wire.specs.declared.types.MessageClass.{MessageClass}
@@ -20,7 +21,7 @@ use Rattle.wire.proofs.types.MessageType.from_u16.Kinds as from
 use Rattle.wire.proofs.types.MessageType.from_u16.Reads as from-reads
 
 pub determined-new : Determines new.ps new.r {I = ℕ} {A = NewMethod} new-reads.Asked new-reads.Learnt (λ κs a. a .0) (λ κs z e. z)
-determined-new = by new.ps new.r new-reads.Asked new-reads.Learnt _ _ methodMade (λ κs a y d i q. q)
+determined-new = by new.ps new.r new-reads.Asked new-reads.Learnt _ _ methodMade (λ κs a y d i q. new-method-one q)
 
 pub determined-method : Determines method.ps method.r {I = Method} {A = ℕ} method-reads.Asked method-reads.Learnt (λ κs a. a .0) (λ κs z e. z)
 determined-method = by method.ps method.r method-reads.Asked method-reads.Learnt _ _ (λ m. m .code) (λ κs a y d i q. q)
@@ -30,7 +31,7 @@ determined-class = by class.ps class.r class-reads.Asked class-reads.Learnt _ _ 
 
 pub determined-type-number : Determines number.ps number.r {I = MessageType} {A = TypeNumber} number-reads.Asked number-reads.Learnt
     (λ κs a. a .0) (λ κs z e. z)
-determined-type-number = by number.ps number.r number-reads.Asked number-reads.Learnt _ _ typeNumber (λ κs a y d i q. q)
+determined-type-number = by number.ps number.r number-reads.Asked number-reads.Learnt _ _ typeNumber (λ κs a y d i q. type-number-one q)
 
 pub determined-type-from : Determines from.ps from.r {I = ℕ} {A = FromNumber} from-reads.Asked from-reads.Learnt (λ κs a. a .0) (λ κs z e. z)
-determined-type-from = by from.ps from.r from-reads.Asked from-reads.Learnt _ _ typeFrom (λ κs a y d i q. q)
+determined-type-from = by from.ps from.r from-reads.Asked from-reads.Learnt _ _ typeFrom (λ κs a y d i q. from-number-one q)

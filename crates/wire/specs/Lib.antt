@@ -1,2 +1,3 @@
 pub mod TypeNumber
 pub mod TypeLaws
+pub mod SaidLaws

@@ -1,7 +1,9 @@
 -- Class, method and the type number (RFC 5389 section 6, figure 3; docs/SCOPE.md, "The type number").
 use Prim.Native.Nat.{ℕ, zero, suc, _+_, _*_, _/_, _%_}
+use mathlib.Core.List.{[], _∷_}
 use lib.Dec.{ltb}
 use Rattle.base.specs.Choice.{pick}
+use Rattle.base.specs.Said.{Said, says}
 use Rattle.wire.specs.declared.method.Method.{Method}
 use Rattle.wire.specs.declared.method.NewMethod.{NewMethod}
 use Rattle.wire.specs.declared.method.NewMethod.the-variants as new
@@ -48,3 +50,16 @@ typeNumber t =
 unfoldable pub typeFrom : ℕ → FromNumber
 typeFrom n =
     pick (ltb n 16384) (back.Known (record { class = classNumbered (classOf n); method = record { code = methodOf n } })) (back.Refused 2)
+
+-- what each answer says: what was asked for, with its values, or refused by a number
+unfoldable pub newMethodSaid : NewMethod → Said
+newMethodSaid (new.Made m) = says 0 0 (m .code ∷ [])
+newMethodSaid (new.Refused n) = says 1 n []
+
+unfoldable pub typeNumberSaid : TypeNumber → Said
+typeNumberSaid (number.Number t) = says 0 0 (t ∷ [])
+typeNumberSaid (number.Refused n) = says 1 n []
+
+unfoldable pub fromNumberSaid : FromNumber → Said
+fromNumberSaid (back.Known t) = says 0 0 (classNumber (t .class) ∷ t .method .code ∷ [])
+fromNumberSaid (back.Refused n) = says 1 n []

@@ -1,6 +1,6 @@
 // The method: a number of twelve bits.
 ghost use mathlib.Core.Path.{_≡_};
-ghost use Rattle.wire.specs.TypeNumber.{methodMade};
+ghost use Rattle.wire.specs.TypeNumber.{methodMade, newMethodSaid};
 
 pub struct Method {
     pub code: u16,
@@ -14,7 +14,7 @@ pub enum NewMethod {
 impl Method {
     // The method of a number; above 4,095 it is refused by 22.
     pub fn new(codepoint: u16) -> NewMethod
-        ensures { λ r. ⌜ r ≡ methodMade codepoint ⌝ }
+        ensures { λ r. ⌜ newMethodSaid r ≡ newMethodSaid (methodMade codepoint) ⌝ }
     {
         if codepoint < 0x1000 {
             return NewMethod::Made(Method { code: codepoint });

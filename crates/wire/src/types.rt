@@ -1,7 +1,7 @@
 // The class of a message, and the type number that class and method make.
 ghost use mathlib.Core.Path.{_≡_};
 ghost use Prim.Native.Nat.{_<_};
-ghost use Rattle.wire.specs.TypeNumber.{classNumber, classNumbered, typeNumber, typeFrom, typeOf, classOf, methodOf};
+ghost use Rattle.wire.specs.TypeNumber.{classNumber, classNumbered, typeNumber, typeFrom, typeOf, typeNumberSaid, fromNumberSaid};
 use crate::method::Method;
 
 pub enum MessageClass {
@@ -62,7 +62,7 @@ fn type_number(c: u16, m: u16) -> u16
 impl MessageType {
     // The type number; a method above 4,095 is refused by 22.
     pub fn as_u16(self) -> TypeNumber
-        ensures { λ r. ⌜ r ≡ typeNumber self ⌝ }
+        ensures { λ r. ⌜ typeNumberSaid r ≡ typeNumberSaid (typeNumber self) ⌝ }
     {
         let class = self.class;
         let m = self.method.code;
@@ -74,7 +74,7 @@ impl MessageType {
 
     // Class and method of a type number; one with a top bit set is refused by 2.
     pub fn from_u16(value: u16) -> FromNumber
-        ensures { λ r. ⌜ r ≡ typeFrom value ⌝ }
+        ensures { λ r. ⌜ fromNumberSaid r ≡ fromNumberSaid (typeFrom value) ⌝ }
     {
         if value < 0x4000 {
             return FromNumber::Known(MessageType {

@@ -1,3 +1,7 @@
+use mathlib.Core.Path.{ap}
+use Rattle.begin.specs.Begin.{writtenSaid}
+use Rattle.begin.specs.SaidLaws.{written-one}
+use Rattle.header.specs.SaidLaws.{header-one}
 use Prim.Native.Nat.{_≤_}
 use native.Mathlib.Omega.{arith}
 use Rattle.addresses.proofs.Values.{ip-small, address-answer, address-buffer}
@@ -12,7 +16,7 @@ part-append-value-end : tie.Need-part-append-value-end
 part-append-value-end c = let h : c .before .before .before .ip-size .result ≤ 16 = search (ip-small) in omega arith
 
 returns : tie.Need-returns
-returns c = (search (address-answer), search (address-buffer))
+returns c = (ap writtenSaid (search (address-answer, written-one, header-one)), search (address-buffer, header-one))
 
 pub append-address-spec : {M : Type 1} → statement M
 append-address-spec =

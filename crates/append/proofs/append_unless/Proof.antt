@@ -1,16 +1,20 @@
+use mathlib.Core.Path.{ap}
+use Rattle.begin.specs.Begin.{writtenSaid}
+use Rattle.begin.specs.SaidLaws.{written-one}
+use Rattle.plan.specs.SaidLaws.{plan-one}
 use Rattle.append.proofs.Writes.{value-short, attr-room, refused, total-is, kept, both}
 use borrow.Author.Needs.{needs}
 use Rattle.append.proofs.append_unless.Statement.{statement}
 use Rattle.append.proofs.append_unless.Tie as tie
 
 put-attr-requires : tie.Need-put-attr-requires
-put-attr-requires c κs = (search (value-short), search (attr-room))
+put-attr-requires c κs = (search (value-short, plan-one), search (attr-room, plan-one))
 
 returns : tie.Need-returns
-returns c = (search (refused), search (kept))
+returns c = (ap writtenSaid (search (refused, written-one, plan-one)), search (kept, plan-one))
 
 returns-2 : tie.Need-returns-2
-returns-2 c = (search (total-is), search (both))
+returns-2 c = (ap writtenSaid (search (total-is, written-one, plan-one)), search (both, plan-one))
 
 pub append-unless-spec : {M : Type 1} → statement M
 append-unless-spec =

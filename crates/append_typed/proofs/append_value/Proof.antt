@@ -1,10 +1,13 @@
+use mathlib.Core.Path.{ap}
+use Rattle.begin.specs.Begin.{writtenSaid}
+use Rattle.begin.specs.SaidLaws.{written-one}
 use Rattle.append_typed.proofs.Values.{value-answer, value-buffer}
 use borrow.Author.Needs.{needs}
 use Rattle.append_typed.proofs.append_value.Statement.{statement}
 use Rattle.append_typed.proofs.append_value.Tie as tie
 
 returns : tie.Need-returns
-returns c = (search (value-answer), search (value-buffer))
+returns c = (ap writtenSaid (search (value-answer, written-one)), search (value-buffer))
 
 pub append-value-spec : {M : Type 1} → statement M
 append-value-spec =

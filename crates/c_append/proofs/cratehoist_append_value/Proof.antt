@@ -1,11 +1,12 @@
 use Rattle.base.specs.Through.{through}
+use Rattle.begin.specs.SaidLaws.{written-one}
 use Rattle.c_write.specs.Said.{told}
 use borrow.Author.Needs.{needs}
 use Rattle.c_append.proofs.cratehoist_append_value.Statement.{statement}
 use Rattle.c_append.proofs.cratehoist_append_value.Tie as tie
 
 returns : tie.Need-returns
-returns c = (search (through told), search needs)
+returns c = (search (through told, written-one), search needs)
 
 pub cratehoist-append-value-spec : {M : Type 1} → statement M
 cratehoist-append-value-spec = tie.close (tie.spec (λ c κs. search needs) (λ c κs. search needs) (λ c. search needs) returns)

@@ -1,22 +1,23 @@
+use Rattle.rfc5389.specs.SaidLaws.{sizes-one, rule-one}
 use Rattle.c_rules.proofs.Sayings.{plain, address, text, code, types}
 use borrow.Author.Needs.{needs}
 use Rattle.c_rules.proofs.cratehoist_rule.Statement.{statement}
 use Rattle.c_rules.proofs.cratehoist_rule.Tie as tie
 
 returns : tie.Need-returns
-returns c = search (plain)
+returns c = search (plain, sizes-one, rule-one)
 
 returns-2 : tie.Need-returns-2
-returns-2 c = search (address)
+returns-2 c = search (address, sizes-one, rule-one)
 
 returns-3 : tie.Need-returns-3
-returns-3 c = search (text)
+returns-3 c = search (text, sizes-one, rule-one)
 
 returns-4 : tie.Need-returns-4
-returns-4 c = search (code)
+returns-4 c = search (code, sizes-one, rule-one)
 
 returns-5 : tie.Need-returns-5
-returns-5 c = search (types)
+returns-5 c = search (types, sizes-one, rule-one)
 
 pub cratehoist-rule-spec : {M : Type 1} → statement M
 cratehoist-rule-spec =

@@ -1,16 +1,17 @@
+use Rattle.wire.specs.SaidLaws.{type-number-one, from-number-one}
 use Rattle.c_wire.proofs.Sayings.{no-class, made, not-made}
 use borrow.Author.Needs.{needs}
 use Rattle.c_wire.proofs.cratehoist_type_number.Statement.{statement}
 use Rattle.c_wire.proofs.cratehoist_type_number.Tie as tie
 
 returns : tie.Need-returns
-returns c = search (no-class)
+returns c = search (no-class, type-number-one, from-number-one)
 
 returns-2 : tie.Need-returns-2
-returns-2 c = search (made)
+returns-2 c = search (made, type-number-one, from-number-one)
 
 returns-3 : tie.Need-returns-3
-returns-3 c = search (not-made)
+returns-3 c = search (not-made, type-number-one, from-number-one)
 
 pub cratehoist-type-number-spec : {M : Type 1} → statement M
 cratehoist-type-number-spec =

@@ -1,22 +1,24 @@
+use mathlib.Core.Path.{ap}
+use Rattle.digits.specs.Number.{numberSaid}
 use Rattle.digits.proofs.Values.{empty, short, no-nought, no-mark, marked}
 use borrow.Author.Needs.{needs}
 use Rattle.digits.proofs.number_of.Statement.{statement}
 use Rattle.digits.proofs.number_of.Tie as tie
 
 returns : tie.Need-returns
-returns c = search (empty)
+returns c = ap numberSaid (search (empty))
 
 returns-2 : tie.Need-returns-2
-returns-2 c = search (short)
+returns-2 c = ap numberSaid (search (short))
 
 returns-3 : tie.Need-returns-3
-returns-3 c = search (no-nought)
+returns-3 c = ap numberSaid (search (no-nought))
 
 returns-4 : tie.Need-returns-4
-returns-4 c = search (no-mark)
+returns-4 c = ap numberSaid (search (no-mark))
 
 returns-5 : tie.Need-returns-5
-returns-5 c = search (marked)
+returns-5 c = ap numberSaid (search (marked))
 
 pub number-of-spec : {M : Type 1} → statement M
 number-of-spec =

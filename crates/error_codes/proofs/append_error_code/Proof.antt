@@ -1,3 +1,6 @@
+use mathlib.Core.Path.{ap}
+use Rattle.begin.specs.Begin.{writtenSaid}
+use Rattle.begin.specs.SaidLaws.{written-one}
 use Prim.Native.Nat.{_≤_}
 use lib.ListN.{length}
 use native.Mathlib.Omega.{arith}
@@ -7,7 +10,7 @@ use Rattle.error_codes.proofs.append_error_code.Statement.{statement}
 use Rattle.error_codes.proofs.append_error_code.Tie as tie
 
 returns : tie.Need-returns
-returns c = (search (stops), search (keeps))
+returns c = (ap writtenSaid (search (stops, written-one)), search (keeps))
 
 code-bytes-requires : tie.Need-code-bytes-requires
 code-bytes-requires c κs = (search (below-700), search (fits))
@@ -17,7 +20,7 @@ part-append-code-end c =
     let h : length (c .before .before .before .before .before .before .before .args .phrase .now) ≤ 127 = search (fits) in omega arith
 
 returns-2 : tie.Need-returns-2
-returns-2 c = (search (code-answer), search (code-buffer))
+returns-2 c = (ap writtenSaid (search (code-answer, written-one)), search (code-buffer))
 
 pub append-error-code-spec : {M : Type 1} → statement M
 append-error-code-spec =

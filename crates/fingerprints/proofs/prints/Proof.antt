@@ -1,9 +1,9 @@
 use Prim.Native.Nat.{_-_}
-use mathlib.Core.Logic.{⊎-elim}
 use mathlib.Core.Path.{refl}
-use native.Mathlib.Omega.{arith}
 use lib.ListN.{length}
 use Rattle.attribute.specs.ScanLaws.{Scanning, passed, cut, less}
+use Rattle.attribute.specs.SaidLaws.{walk-one}
+use Rattle.attribute.proofs.Stops.{stops}
 use Rattle.fingerprints.specs.Fingerprints.{printFaults, onFrom}
 use Rattle.fingerprints.specs.Running.{Ran}
 use Rattle.fingerprints.proofs.Runs.{unbegun}
@@ -25,22 +25,19 @@ returns : tie.Need-returns Inv-loop μ-loop
 returns c = search (passed)
 
 returns-2 : tie.Need-returns-2 Inv-loop μ-loop
-returns-2 c = search (cut)
-
-returns-3 : tie.Need-returns-3 Inv-loop μ-loop
-returns-3 c = absurd (⊎-elim (λ w. omega (arith, c .before .match2 .keys3)) (λ w. omega (arith, c .before .match2 .keys3)) (c .before .before .match .keys2))
+returns-2 c = search (cut, stops, walk-one)
 
 print-fault-requires : tie.Need-print-fault-requires Inv-loop μ-loop
-print-fault-requires c κs = (search needs, search needs, search needs, search (print-room))
+print-fault-requires c κs = (search needs, search needs, search needs, search (print-room, walk-one))
 
-returns-4 : tie.Need-returns-4 Inv-loop μ-loop
-returns-4 c = search (print-decides)
+returns-3 : tie.Need-returns-3 Inv-loop μ-loop
+returns-3 c = search (print-decides, walk-one)
 
 loop-less : tie.Need-loop-less Inv-loop μ-loop
-loop-less c = search (less)
+loop-less c = search (less, walk-one)
 
 loop-again : tie.Need-loop-again Inv-loop μ-loop
-loop-again c = (search (print-on), search (ran-on))
+loop-again c = (search (print-on, walk-one), search (ran-on, walk-one))
 
 pub prints-spec : {M : Type 1} → statement M
 prints-spec =
@@ -51,14 +48,10 @@ prints-spec =
     loop-holds
     (λ c κs. search needs)
     (λ c. search needs)
-    (λ c. search needs)
     returns
-    (λ c. search needs)
     returns-2
-    (λ c. search needs)
-    returns-3
     print-fault-requires
-    returns-4
+    returns-3
     (λ c. search needs)
     loop-less
     loop-again)

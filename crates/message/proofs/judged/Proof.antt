@@ -1,3 +1,4 @@
+use Rattle.attribute.specs.SaidLaws.{scan-one}
 use Rattle.message.proofs.Answers.{first, second}
 use borrow.Author.Needs.{needs}
 use Rattle.message.proofs.judged.Statement.{statement}
@@ -7,7 +8,7 @@ returns : tie.Need-returns
 returns c = search (first)
 
 returns-2 : tie.Need-returns-2
-returns-2 c = search (second)
+returns-2 c = search (second, scan-one)
 
 pub judged-spec : {M : Type 1} → statement M
 judged-spec =

@@ -1,19 +1,22 @@
+use mathlib.Core.Path.{ap}
+use Rattle.header.specs.SaidLaws.{header-one}
+use Rattle.message.specs.Reading.{readingSaid}
 use Rattle.message.proofs.Answers.{read-long, read-refused, read-whole, read-broken}
 use borrow.Author.Needs.{needs}
 use Rattle.message.proofs.read.Statement.{statement}
 use Rattle.message.proofs.read.Tie as tie
 
 judged-requires : tie.Need-judged-requires
-judged-requires c κs = search (read-long)
+judged-requires c κs = search (read-long, header-one)
 
 returns : tie.Need-returns
-returns c = search (read-refused)
+returns c = ap readingSaid (search (read-refused, header-one))
 
 returns-2 : tie.Need-returns-2
-returns-2 c = search (read-whole)
+returns-2 c = ap readingSaid (search (read-whole, header-one))
 
 returns-3 : tie.Need-returns-3
-returns-3 c = search (read-broken)
+returns-3 c = ap readingSaid (search (read-broken, header-one))
 
 pub read-spec : {M : Type 1} → statement M
 read-spec =

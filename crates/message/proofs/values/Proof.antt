@@ -1,9 +1,10 @@
 use Prim.Native.Nat.{_-_}
-use mathlib.Core.Logic.{⊎-elim}
 use native.Mathlib.Omega.{arith}
 use lib.ListN.{length}
 use Rattle.attribute.specs.Scan.{scanned}
 use Rattle.attribute.specs.ScanLaws.{Scanning, start, passed, cut, within, less}
+use Rattle.attribute.specs.SaidLaws.{walk-one}
+use Rattle.attribute.proofs.Stops.{stops}
 use Rattle.rfc5389.specs.Rows.{rfc5389}
 use Rattle.fingerprints.specs.Fingerprints.{printFaults}
 use Rattle.message.specs.Reading.{valueFaults}
@@ -28,28 +29,25 @@ returns : tie.Need-returns Inv-loop μ-loop
 returns c = (search (passed), search needs)
 
 returns-2 : tie.Need-returns-2 Inv-loop μ-loop
-returns-2 c = (search (cut), search needs)
-
-returns-3 : tie.Need-returns-3 Inv-loop μ-loop
-returns-3 c = absurd (⊎-elim (λ w. omega (arith, c .before .match2 .keys3)) (λ w. omega (arith, c .before .match2 .keys3)) (c .before .before .match .keys2))
+returns-2 c = (search (cut, stops, walk-one), search needs)
 
 add-fault : tie.Need-add-fault Inv-loop μ-loop
-add-fault c = omega (arith, within (c .before .before .before .before .loop .inv .0) (c .before .w .given .1) (c .before .before .before .step .ensures))
+add-fault c = omega (arith, within (c .before .before .before .before .loop .inv .0) (c .before .w .given .1) (walk-one (c .before .before .before .step .ensures)))
 
 part-fault-end : tie.Need-part-fault-end Inv-loop μ-loop
-part-fault-end c = search (within)
+part-fault-end c = search (within, walk-one)
 
-returns-4 : tie.Need-returns-4 Inv-loop μ-loop
-returns-4 c = (search (value-decides), search needs)
+returns-3 : tie.Need-returns-3 Inv-loop μ-loop
+returns-3 c = (search (value-decides, walk-one), search needs)
 
 past-requires : tie.Need-past-requires Inv-loop μ-loop
-past-requires c κs = (search needs, search (onward))
+past-requires c κs = (search needs, search (onward, walk-one))
 
 loop-again : tie.Need-loop-again Inv-loop μ-loop
-loop-again c = (search (value-on), search (front-turn))
+loop-again c = (search (value-on, walk-one), search (front-turn, walk-one))
 
 loop-less : tie.Need-loop-less Inv-loop μ-loop
-loop-less c = search (less)
+loop-less c = search (less, walk-one)
 
 pub values-spec : {M : Type 1} → statement M
 values-spec =
@@ -60,18 +58,14 @@ values-spec =
     loop-holds
     (λ c κs. search needs)
     (λ c. search needs)
-    (λ c. search needs)
     returns
-    (λ c. search needs)
     returns-2
-    (λ c. search needs)
-    returns-3
     add-fault
     (λ c. search needs)
     (λ c. search needs)
     part-fault-end
     (λ c κs. search needs)
-    returns-4
+    returns-3
     past-requires
     (λ c. search needs)
     loop-less

@@ -1,6 +1,8 @@
 use Prim.Native.Nat.{_-_}
 use lib.ListN.{length}
-use Rattle.plan.proofs.Fronts.{Walking, start, turn, less, ended, cut}
+use Rattle.attribute.specs.SaidLaws.{walk-one}
+use Rattle.attribute.proofs.Stops.{stops}
+use Rattle.plan.proofs.Fronts.{Walking, start, turn, less, ends}
 use borrow.Author.Needs.{needs}
 use Rattle.plan.proofs.covered.Statement.{statement}
 use Rattle.plan.proofs.covered.Tie as tie
@@ -15,29 +17,15 @@ loop-holds : tie.Need-loop-holds Inv-loop μ-loop
 loop-holds c = start _ (c .before .pre)
 
 returns : tie.Need-returns Inv-loop μ-loop
-returns c = search (ended)
-
-returns-2 : tie.Need-returns-2 Inv-loop μ-loop
-returns-2 c = search (cut)
+returns c = search (ends, stops, walk-one)
 
 loop-less : tie.Need-loop-less Inv-loop μ-loop
-loop-less c = search (less)
+loop-less c = search (less, walk-one)
 
 loop-again : tie.Need-loop-again Inv-loop μ-loop
-loop-again c = search (turn)
+loop-again c = search (turn, walk-one)
 
 pub covered-spec : {M : Type 1} → statement M
 covered-spec =
     tie.close
-    (tie.spec
-    Inv-loop
-    μ-loop
-    loop-holds
-    (λ c κs. search needs)
-    (λ c. search needs)
-    returns
-    (λ c. search needs)
-    returns-2
-    (λ c. search needs)
-    loop-less
-    loop-again)
+    (tie.spec Inv-loop μ-loop loop-holds (λ c κs. search needs) (λ c. search needs) returns loop-less loop-again)

@@ -1,28 +1,30 @@
+use mathlib.Core.Path.{ap}
+use Rattle.plan.specs.Plan.{planSaid}
 use Rattle.plan.proofs.Plans.{at-21, at-23, at-24, at-25-alone, at-25, at-26, plan-goes}
 use borrow.Author.Needs.{needs}
 use Rattle.plan.proofs.plan_for.Statement.{statement}
 use Rattle.plan.proofs.plan_for.Tie as tie
 
 returns : tie.Need-returns
-returns c = search (at-21)
+returns c = ap planSaid (search (at-21))
 
 returns-2 : tie.Need-returns-2
-returns-2 c = search (at-23)
+returns-2 c = ap planSaid (search (at-23))
 
 returns-3 : tie.Need-returns-3
-returns-3 c = search (at-24)
+returns-3 c = ap planSaid (search (at-24))
 
 returns-4 : tie.Need-returns-4
-returns-4 c = search (at-25-alone)
+returns-4 c = ap planSaid (search (at-25-alone))
 
 returns-5 : tie.Need-returns-5
-returns-5 c = search (at-25)
+returns-5 c = ap planSaid (search (at-25))
 
 returns-6 : tie.Need-returns-6
-returns-6 c = search (at-26)
+returns-6 c = ap planSaid (search (at-26))
 
 returns-7 : tie.Need-returns-7
-returns-7 c = search (plan-goes)
+returns-7 c = ap planSaid (search (plan-goes))
 
 pub plan-for-spec : {M : Type 1} → statement M
 plan-for-spec =

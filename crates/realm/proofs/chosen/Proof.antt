@@ -1,5 +1,6 @@
 use native.Mathlib.Omega.{arith}
 use Rattle.rfc5389.specs.Rows.{rfc5389}
+use Rattle.value.specs.SaidLaws.{first-one}
 use Rattle.value.specs.FirstLaws.{room}
 use Rattle.realm.proofs.Choosing.{configured, configured-at, own, own-at}
 use borrow.Author.Needs.{needs}
@@ -7,19 +8,19 @@ use Rattle.realm.proofs.chosen.Statement.{statement}
 use Rattle.realm.proofs.chosen.Tie as tie
 
 add-value : tie.Need-add-value
-add-value c = omega (arith, room rfc5389 _ _ (c .before .before .before .find .ensures) (c .before .f .given .1))
+add-value c = omega (arith, room rfc5389 _ _ (first-one (c .before .before .before .find .ensures)) (c .before .f .given .1))
 
 add-result : tie.Need-add-result
-add-result c = omega (arith, room rfc5389 _ _ (c .before .before .before .find .ensures) (c .before .f .given .1))
+add-result c = omega (arith, room rfc5389 _ _ (first-one (c .before .before .before .find .ensures)) (c .before .f .given .1))
 
 part-result-end : tie.Need-part-result-end
-part-result-end c = omega (arith, room rfc5389 _ _ (c .before .before .before .find .ensures) (c .before .f .given .1))
+part-result-end c = omega (arith, room rfc5389 _ _ (first-one (c .before .before .before .find .ensures)) (c .before .f .given .1))
 
 returns : tie.Need-returns
-returns c = (search (configured), search (configured-at))
+returns c = (search (configured, first-one), search (configured-at, first-one))
 
 returns-2 : tie.Need-returns-2
-returns-2 c = (search (own), search (own-at))
+returns-2 c = (search (own, first-one), search (own-at, first-one))
 
 pub chosen-spec : {M : Type 1} → statement M
 chosen-spec =

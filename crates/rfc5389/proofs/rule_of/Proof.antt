@@ -1,4 +1,5 @@
-use Rattle.rfc5389.specs.Fault.{ruleOf}
+use mathlib.Core.Path.{ap}
+use Rattle.rfc5389.specs.Fault.{ruleNumber, ruleOf}
 use Rattle.rfc5389.proofs.Faults.{no-rule}
 use Rattle.rfc5389.proofs.rule_of.Statement.{statement}
 use Rattle.rfc5389.proofs.rule_of.Tie as tie
@@ -17,4 +18,4 @@ rule-of-spec =
     (λ c. rw (c .match .keys7))
     (λ c. rw (c .match .keys8))
     (λ c. rw (c .match .keys9))
-    (λ c. search (no-rule)))
+    (λ c. ap ruleNumber (search (no-rule))))

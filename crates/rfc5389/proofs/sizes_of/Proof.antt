@@ -1,4 +1,6 @@
 use Prim.Native.Nat.{_-_}
+use mathlib.Core.Path.{ap}
+use Rattle.rfc5389.specs.Rows.{sizesSaid}
 use Rattle.rfc5389.proofs.Looking.{Looking, start, turn, found, done}
 use borrow.Author.Needs.{needs}
 use Rattle.rfc5389.proofs.sizes_of.Statement.{statement}
@@ -14,13 +16,13 @@ loop-holds : tie.Need-loop-holds Inv-loop μ-loop
 loop-holds c = start _
 
 returns : tie.Need-returns Inv-loop μ-loop
-returns c = search (found)
+returns c = ap sizesSaid (search (found))
 
 loop-again : tie.Need-loop-again Inv-loop μ-loop
 loop-again c = turn _ (c .before .before .before .before .loop .inv) (c .before .before .before .loop-test .taken) (c .if1 .left)
 
 returns-2 : tie.Need-returns-2 Inv-loop μ-loop
-returns-2 c = search (done)
+returns-2 c = ap sizesSaid (search (done))
 
 pub sizes-of-spec : {M : Type 1} → statement M
 sizes-of-spec =

@@ -1,10 +1,13 @@
+use mathlib.Core.Path.{ap}
+use Rattle.begin.specs.Begin.{writtenSaid}
+use Rattle.begin.specs.SaidLaws.{written-one}
 use Rattle.seal.proofs.Sums.{print-answer, print-buffer}
 use borrow.Author.Needs.{needs}
 use Rattle.seal.proofs.append_fingerprint.Statement.{statement}
 use Rattle.seal.proofs.append_fingerprint.Tie as tie
 
 returns : tie.Need-returns
-returns c = (search (print-answer), search (print-buffer))
+returns c = (ap writtenSaid (search (print-answer, written-one)), search (print-buffer))
 
 pub append-fingerprint-spec : {M : Type 1} → statement M
 append-fingerprint-spec =

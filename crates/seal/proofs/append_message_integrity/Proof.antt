@@ -1,10 +1,13 @@
+use mathlib.Core.Path.{ap}
+use Rattle.begin.specs.Begin.{writtenSaid}
+use Rattle.begin.specs.SaidLaws.{written-one}
 use Rattle.seal.proofs.Sums.{mac-answer, mac-buffer}
 use borrow.Author.Needs.{needs}
 use Rattle.seal.proofs.append_message_integrity.Statement.{statement}
 use Rattle.seal.proofs.append_message_integrity.Tie as tie
 
 returns : tie.Need-returns
-returns c = (search (mac-answer), search (mac-buffer))
+returns c = (ap writtenSaid (search (mac-answer, written-one)), search (mac-buffer))
 
 pub append-message-integrity-spec : {M : Type 1} → statement M
 append-message-integrity-spec =

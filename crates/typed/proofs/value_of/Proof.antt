@@ -1,25 +1,28 @@
+use mathlib.Core.Path.{ap}
+use Rattle.rfc5389.specs.SaidLaws.{rule-one}
+use Rattle.typed.specs.Typed.{typedSaid}
 use Rattle.typed.proofs.Fields.{faulty, address, code, text, types, plain}
 use borrow.Author.Needs.{needs}
 use Rattle.typed.proofs.value_of.Statement.{statement}
 use Rattle.typed.proofs.value_of.Tie as tie
 
 returns : tie.Need-returns
-returns c = search (faulty, address, code, text, types, plain)
+returns c = ap typedSaid (search (faulty, address, code, text, types, plain, rule-one))
 
 returns-2 : tie.Need-returns-2
-returns-2 c = search (faulty, address, code, text, types, plain)
+returns-2 c = ap typedSaid (search (faulty, address, code, text, types, plain, rule-one))
 
 returns-3 : tie.Need-returns-3
-returns-3 c = search (faulty, address, code, text, types, plain)
+returns-3 c = ap typedSaid (search (faulty, address, code, text, types, plain, rule-one))
 
 returns-4 : tie.Need-returns-4
-returns-4 c = search (faulty, address, code, text, types, plain)
+returns-4 c = ap typedSaid (search (faulty, address, code, text, types, plain, rule-one))
 
 returns-5 : tie.Need-returns-5
-returns-5 c = search (faulty, address, code, text, types, plain)
+returns-5 c = ap typedSaid (search (faulty, address, code, text, types, plain, rule-one))
 
 returns-6 : tie.Need-returns-6
-returns-6 c = search (faulty, address, code, text, types, plain)
+returns-6 c = ap typedSaid (search (faulty, address, code, text, types, plain, rule-one))
 
 pub value-of-spec : {M : Type 1} → statement M
 value-of-spec =

@@ -1,16 +1,20 @@
+use mathlib.Core.Path.{ap}
+use Rattle.message.specs.SaidLaws.{reading-one}
+use Rattle.value.specs.First.{firstSaid}
+use Rattle.value.specs.SaidLaws.{first-one}
 use Rattle.value.proofs.Finding.{whole, broken, refused}
 use borrow.Author.Needs.{needs}
 use Rattle.value.proofs.find.Statement.{statement}
 use Rattle.value.proofs.find.Tie as tie
 
 returns : tie.Need-returns
-returns c = search (whole, broken, refused)
+returns c = ap firstSaid (search (whole, broken, refused, reading-one, first-one))
 
 returns-2 : tie.Need-returns-2
-returns-2 c = search (whole, broken, refused)
+returns-2 c = ap firstSaid (search (whole, broken, refused, reading-one, first-one))
 
 returns-3 : tie.Need-returns-3
-returns-3 c = search (whole, broken, refused)
+returns-3 c = ap firstSaid (search (whole, broken, refused, reading-one, first-one))
 
 pub find-spec : {M : Type 1} → statement M
 find-spec =

@@ -1,24 +1,25 @@
 use native.Mathlib.Omega.{arith}
 use Rattle.rfc5389.specs.Rows.{rfc5389}
+use Rattle.value.specs.SaidLaws.{first-one}
 use Rattle.value.specs.FirstLaws.{room, nothing, nothing-at, value, value-at}
 use borrow.Author.Needs.{needs}
 use Rattle.value.proofs.first_value.Statement.{statement}
 use Rattle.value.proofs.first_value.Tie as tie
 
 add-value : tie.Need-add-value
-add-value c = omega (arith, room rfc5389 _ _ (c .before .before .before .find .ensures) (c .before .f .given .1))
+add-value c = omega (arith, room rfc5389 _ _ (first-one (c .before .before .before .find .ensures)) (c .before .f .given .1))
 
 add-result : tie.Need-add-result
-add-result c = omega (arith, room rfc5389 _ _ (c .before .before .before .find .ensures) (c .before .f .given .1))
+add-result c = omega (arith, room rfc5389 _ _ (first-one (c .before .before .before .find .ensures)) (c .before .f .given .1))
 
 part-result-end-2 : tie.Need-part-result-end-2
-part-result-end-2 c = omega (arith, room rfc5389 _ _ (c .before .before .before .find .ensures) (c .before .f .given .1))
+part-result-end-2 c = omega (arith, room rfc5389 _ _ (first-one (c .before .before .before .find .ensures)) (c .before .f .given .1))
 
 returns : tie.Need-returns
-returns c = (search (nothing), search (nothing-at))
+returns c = (search (nothing, first-one), search (nothing-at, first-one))
 
 returns-2 : tie.Need-returns-2
-returns-2 c = (search (value), search (value-at))
+returns-2 c = (search (value, first-one), search (value-at, first-one))
 
 pub first-value-spec : {M : Type 1} → statement M
 first-value-spec =

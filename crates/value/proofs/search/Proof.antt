@@ -1,5 +1,9 @@
 use Prim.Native.Nat.{_-_}
+use mathlib.Core.Path.{ap}
 use lib.ListN.{length}
+use Rattle.attribute.specs.SaidLaws.{walk-one}
+use Rattle.attribute.proofs.Stops.{stops}
+use Rattle.value.specs.First.{firstSaid}
 use Rattle.value.proofs.Searching.{Searching, start, less, turn, found, none-left}
 use borrow.Author.Needs.{needs}
 use Rattle.value.proofs.search.Statement.{statement}
@@ -15,16 +19,16 @@ loop-holds : tie.Need-loop-holds Inv-loop μ-loop
 loop-holds c = start _ _
 
 returns : tie.Need-returns Inv-loop μ-loop
-returns c = search (none-left)
+returns c = ap firstSaid (search (none-left, stops, walk-one))
 
 returns-2 : tie.Need-returns-2 Inv-loop μ-loop
-returns-2 c = search (found)
+returns-2 c = ap firstSaid (search (found, walk-one))
 
 loop-less : tie.Need-loop-less Inv-loop μ-loop
-loop-less c = search (less)
+loop-less c = search (less, walk-one)
 
 loop-again : tie.Need-loop-again Inv-loop μ-loop
-loop-again c = search (turn)
+loop-again c = search (turn, walk-one)
 
 pub search-spec : {M : Type 1} → statement M
 search-spec =

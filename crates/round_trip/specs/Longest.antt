@@ -1,50 +1,29 @@
--- P8 and P10 of the sheet (docs/SCOPE.md, "Sheet of examples").
+-- The longest body (docs/SCOPE.md, "Writing: append"): 65,532 bytes may be written, and one attribute more gives 25.
 use Prim.Native.Nat.{ℕ, _+_, _%_, _≤_, _<_}
 use mathlib.Core.List.{List, [], _∷_, _++_}
 use mathlib.Core.Path.{_≡_, refl, sym, ap, _∙_}
 use native.Mathlib.Omega.{arith}
 use lib.ListN.{length, drop, replicate, length-append, length-replicate}
-use Rattle.base.specs.Same.{same}
-use Rattle.base.specs.Laid.{laid}
 use Rattle.numbers.specs.Numbers.{be16}
-use Rattle.constants.specs.Cookie.{cookieAt}
 use Rattle.wire.specs.TypeNumber.{typeOf, classNumber}
 use Rattle.wire.specs.TypeLaws.{type-below, class-small}
 use Rattle.wire.specs.declared.types.MessageClass.the-variants.{Request}
-use Rattle.header.specs.Header.{frontFault}
-use Rattle.attribute.specs.Attribute.{padded, Attr, stop, more, parse, allBytes}
-use Rattle.attribute.specs.Attribute as one
-use Rattle.rfc5389.specs.Rows.{rfc5389, look}
-use Rattle.rfc5389.specs.declared.Sizes.the-variants.{Unknown}
-use Rattle.begin.specs.Begin.{headBytes}
+use Rattle.attribute.specs.Attribute.{padded, Attr, allBytes}
 use Rattle.begin.specs.declared.Written.the-variants.{Total, Refused}
-use Rattle.plan.specs.Plan.{messageFault, covers, planOf}
 use Rattle.plan.specs.PlanLaws.{long, plan-is}
-use Rattle.append.specs.Append.{attr, answered, written, planFor, answer, appended}
+use Rattle.append.specs.Append.{attr, answered, planFor, answer}
 use Rattle.round_trip.specs.Message.{Message, bytesOf, Shaped, write, said}
 use Rattle.round_trip.specs.FrontLaws.{front, is-message, body-is}
 use Rattle.round_trip.specs.WriteAgain.{bytes-length}
 use Rattle.round_trip.specs.WriteAgain as again
 
--- P8: an attribute of an unknown type, with padding that is not nought
-abbrev odd : List ℕ
-odd = 0xC0 ∷ 0x01 ∷ 0x00 ∷ 0x01 ∷ 0x07 ∷ 0xAA ∷ 0xBB ∷ 0xCC ∷ []
-
-abbrev read : Attr
-read = attr 0xC001 (0x07 ∷ []) (0xAA ∷ 0xBB ∷ 0xCC ∷ [])
-
 abbrev ID : List ℕ
 ID = 0 ∷ 1 ∷ 2 ∷ 3 ∷ 4 ∷ 5 ∷ 6 ∷ 7 ∷ 8 ∷ 9 ∷ 10 ∷ 11 ∷ []
 
-pub P8 : (look rfc5389 0xC001 ≡ Unknown) × (parse 0 odd ≡ more read (stop [])) × (one.bytesOf read ≡ odd)
-    × (appended (headBytes 1 0 ID ++ replicate {A = ℕ} 8 0) 0 read ≡ headBytes 1 8 ID ++ odd)
-unfolding look parse appended planFor planOf written answered messageFault covers frontFault cookieAt same be16 headBytes laid
-P8 = search (refl)
-
--- P10: a body of 65,532 bytes may be written, and one attribute more gives 25, in any buffer
+-- in any buffer
 module _ (b : List ℕ) (m : Message) (w : Shaped m) (full : length (allBytes (m .attributes)) ≡ 65532) (room : length (bytesOf m) ≤ length b) where
-  pub P10-written : said b m ≡ Total (length (bytesOf m))
-  P10-written = again.answers b m w room
+  pub full-written : said b m ≡ Total (length (bytesOf m))
+  full-written = again.answers b m w room
 
   t : ℕ
   t = typeOf (classNumber (m .class)) (m .method .code)
@@ -57,16 +36,16 @@ module _ (b : List ℕ) (m : Message) (w : Shaped m) (full : length (allBytes (m
   unfolding front bytesOf t
   buffer = again.written b m w room
 
-  pub P10-full : (a : Attr) → length (a .value) + length (a .pad) ≡ padded (length (a .value)) → answer (write b m) 0 a ≡ Refused 25
+  pub full-refused : (a : Attr) → length (a .value) + length (a .pad) ≡ padded (length (a .value)) → answer (write b m) 0 a ≡ Refused 25
   unfolding answer answered planFor
-  P10-full a p =
+  full-refused a p =
       let r : List ℕ = drop (length (bytesOf m)) b in
       let n : be16 (front t (m .id .bytes) (m .attributes) ++ r) 2 ≡ length (allBytes (m .attributes)) = body-is t (m .id .bytes) (m .attributes) r small (w .id) (w .attributes) (w .body) in
       ap (λ (x : List ℕ). answer x 0 a) buffer
       ∙ ap answered (sym (plan-is (long (is-message t (m .id .bytes) (m .attributes) r small (w .id) (w .attributes) (w .body)) refl p (omega arith))))
 
 -- and there is such a message: one attribute of n zeros, at n = 65,528
-abbrev zeros : ℕ → Message
+abbrev pub zeros : ℕ → Message
 zeros n = record {
   class = Request;
   method = record { code = 1 };
@@ -85,10 +64,10 @@ zeros-shaped n e h = record {
   body = rw (zeros-body n) (omega arith);
 }
 
-pub P10 : (b : List ℕ) → 65552 ≤ length b
+pub longest : (b : List ℕ) → 65552 ≤ length b
     → (said b (zeros 65528) ≡ Total 65552)
     × ((a : Attr) → length (a .value) + length (a .pad) ≡ padded (length (a .value)) → answer (write b (zeros 65528)) 0 a ≡ Refused 25)
-P10 b h = at 65528 refl (omega arith) refl
+longest b h = at 65528 refl (omega arith) refl
   where
     size : (n : ℕ) → length (bytesOf (zeros n)) ≡ 20 + (4 + n)
     size n = bytes-length (zeros n) refl ∙ ap (λ (x : ℕ). 20 + x) (zeros-body n)
@@ -100,4 +79,4 @@ P10 b h = at 65528 refl (omega arith) refl
         let w : Shaped (zeros n) = zeros-shaped n e l in
         let r : length (bytesOf (zeros n)) ≤ length b = omega (arith, size n) in
         let f : length (allBytes (zeros n .attributes)) ≡ 65532 = let x : 4 + n ≡ 65532 = omega arith in zeros-body n ∙ x in
-        (P10-written b (zeros n) w f r ∙ ap (λ (x : ℕ). Total x) (let x : 20 + (4 + n) ≡ 65552 = omega arith in size n ∙ x), P10-full b (zeros n) w f r)
+        (full-written b (zeros n) w f r ∙ ap (λ (x : ℕ). Total x) (let x : 20 + (4 + n) ≡ 65552 = omega arith in size n ∙ x), full-refused b (zeros n) w f r)
