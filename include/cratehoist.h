@@ -165,6 +165,7 @@ typedef struct cratehoist_written {
     size_t size;
 } cratehoist_written;
 
+/* Where an attribute would go, and the body length and the size of the message with it. */
 typedef struct cratehoist_plan {
     uint8_t number;
     size_t place;
@@ -253,9 +254,9 @@ cratehoist_written cratehoist_append_unknown_attributes(uint8_t *buffer, size_t 
 cratehoist_written cratehoist_append_message_integrity(uint8_t *buffer, size_t buffer_size, const uint8_t *key, size_t key_size);
 cratehoist_written cratehoist_append_fingerprint(uint8_t *buffer, size_t buffer_size);
 
-/* For attributes of your own: a value with padding of zeros, and one with its padding, unless `wrong` is a number of yours, which
- * goes behind 21. cratehoist_refusal is 23 where the list of types refuses a value, and cratehoist_plan tells what an append of so
- * many bytes comes to and writes nothing. */
+/* For attributes of your own: a value with padding of zeros, and one with its padding: 21, `wrong` where that is not 0, 24, 25, 26.
+ * cratehoist_refusal is 23 where the list of types refuses a value, else 0. cratehoist_plan_for tells what an append of a value of
+ * `size` bytes and `padding` bytes behind it comes to, by the same numbers, and writes nothing. */
 cratehoist_written cratehoist_append_value(uint8_t *buffer, size_t buffer_size, uint8_t wrong, uint16_t kind, const uint8_t *value, size_t value_size);
 cratehoist_written cratehoist_append_unless(uint8_t *buffer, size_t buffer_size, uint8_t wrong, uint16_t kind, const uint8_t *value, size_t value_size, const uint8_t *padding, size_t padding_size);
 uint8_t cratehoist_refusal(uint16_t kind, const uint8_t *value, size_t value_size);

@@ -3,8 +3,8 @@ ghost use mathlib.Core.Path.{_≡_};
 ghost use Rattle.buffers.specs.Put.{fitsAt, put};
 ghost use Rattle.constants.specs.Cookie.{cookie, cookieAt};
 
-// The cookie as a number (RFC 5389 section 6).
-pub const MAGIC_COOKIE: u32 = 0x2112_A442;
+// The cookie's bytes (RFC 5389 section 6).
+pub const MAGIC_COOKIE: [u8; 4] = *b"\x21\x12\xA4\x42";
 
 // Are the four bytes at a place the cookie's?
 pub fn cookie_at(d: &[u8], at: usize) -> bool
@@ -16,7 +16,7 @@ pub fn cookie_at(d: &[u8], at: usize) -> bool
     if d.len() - at < 4 {
         return false;
     }
-    let cookie = b"\x21\x12\xA4\x42";
+    let cookie = MAGIC_COOKIE;
     let mut i = 0;
     while i < 4 {
         if d[at + i] != cookie[i] {
@@ -31,5 +31,5 @@ pub fn cookie_at(d: &[u8], at: usize) -> bool
 pub fn put_cookie(buf: &mut [u8], at: usize) -> bool
     ensures { λ r. ⌜ (r ≡ fitsAt (now (buf .entry)) at cookie) × (now (buf .exit) ≡ put (now (buf .entry)) at cookie) ⌝ }
 {
-    buffers::put_bytes(buf, at, b"\x21\x12\xA4\x42")
+    buffers::put_bytes(buf, at, &MAGIC_COOKIE)
 }

@@ -1,6 +1,6 @@
 use crate::attribute::{Append, Attribute, AttributeType, RawAttribute};
 use crate::calls::{self, Written};
-use crate::{rfc5389, Error, Method, Result, TransactionId};
+use crate::{rfc5389, sys, Error, Method, Result, TransactionId};
 use core::fmt;
 
 /// Message read by [`MessageDecoder`].
@@ -9,19 +9,20 @@ pub type DecodedMessage<'a> = core::result::Result<Message<'a>, BrokenMessage>;
 /// The class of a message.
 #[allow(missing_docs)]
 #[derive(Debug, Clone, Copy, PartialEq, Eq, Hash)]
+#[repr(u16)]
 pub enum MessageClass {
-    Request,
-    Indication,
-    SuccessResponse,
-    ErrorResponse,
+    Request = sys::REQUEST,
+    Indication = sys::INDICATION,
+    SuccessResponse = sys::SUCCESS_RESPONSE,
+    ErrorResponse = sys::ERROR_RESPONSE,
 }
 impl MessageClass {
     /// The class of a number that the library gave: below four.
     fn given(number: u16) -> Self {
         match number {
-            0 => MessageClass::Request,
-            1 => MessageClass::Indication,
-            2 => MessageClass::SuccessResponse,
+            sys::REQUEST => MessageClass::Request,
+            sys::INDICATION => MessageClass::Indication,
+            sys::SUCCESS_RESPONSE => MessageClass::SuccessResponse,
             _ => MessageClass::ErrorResponse,
         }
     }
@@ -152,7 +153,7 @@ impl<'a> Iterator for RawAttributes<'a> {
 
     fn next(&mut self) -> Option<Self::Item> {
         let step = calls::step_at(self.datagram, self.place);
-        if step.what != 0 {
+        if step.what != sys::ATTRIBUTE {
             return None;
         }
         self.place = step.next;
@@ -252,14 +253,14 @@ impl MessageDecoder {
         let method = Method(r.method);
         let transaction_id = TransactionId::new(r.id.bytes);
         match r.what {
-            0 => Ok(Ok(Message {
+            sys::WHOLE => Ok(Ok(Message {
                 datagram,
                 class,
                 method,
                 transaction_id,
                 count: r.count,
             })),
-            1 => Ok(Err(BrokenMessage {
+            sys::BROKEN => Ok(Err(BrokenMessage {
                 method,
                 class,
                 transaction_id,

@@ -1,6 +1,6 @@
 //! Socket addresses and their XOR form.
 use crate::calls::{self, Address};
-use crate::TransactionId;
+use crate::{sys, TransactionId};
 use core::net::{IpAddr, Ipv4Addr, Ipv6Addr, SocketAddr};
 
 /// The XOR form of an address, and of an XOR form the address.
@@ -23,11 +23,11 @@ pub(crate) fn lent(addr: SocketAddr) -> Address {
     let family = match addr.ip() {
         IpAddr::V4(v4) => {
             ip[..4].copy_from_slice(&v4.octets());
-            1
+            sys::IPV4
         }
         IpAddr::V6(v6) => {
             ip = v6.octets();
-            2
+            sys::IPV6
         }
     };
     Address {
@@ -37,10 +37,10 @@ pub(crate) fn lent(addr: SocketAddr) -> Address {
     }
 }
 
-/// An address that the library gave: of family 1 or 2.
+/// An address that the library gave: of one of the two families.
 pub(crate) fn given(family: u8, port: u16, ip: [u8; 16]) -> SocketAddr {
     let ip = match family {
-        1 => IpAddr::V4(Ipv4Addr::new(ip[0], ip[1], ip[2], ip[3])),
+        sys::IPV4 => IpAddr::V4(Ipv4Addr::new(ip[0], ip[1], ip[2], ip[3])),
         _ => IpAddr::V6(Ipv6Addr::from(ip)),
     };
     SocketAddr::new(ip, port)

@@ -1,15 +1,64 @@
-//! The calls of include/cratehoist.h as they are. `tools/header` holds them to the source; [`crate::calls`] has them as safe calls.
+//! The constants and calls of include/cratehoist.h as they are. `tools/header` holds them to the source; [`crate::calls`] has safe
+//! calls.
+#![allow(missing_docs)]
+
+// Classes.
+pub const REQUEST: u16 = 0;
+pub const INDICATION: u16 = 1;
+pub const SUCCESS_RESPONSE: u16 = 2;
+pub const ERROR_RESPONSE: u16 = 3;
+
+// The method of RFC 5389.
+pub const BINDING: u16 = 1;
+
+// Types of attributes.
+pub const MAPPED_ADDRESS: u16 = 0x0001;
+pub const USERNAME: u16 = 0x0006;
+pub const MESSAGE_INTEGRITY: u16 = 0x0008;
+pub const ERROR_CODE: u16 = 0x0009;
+pub const UNKNOWN_ATTRIBUTES: u16 = 0x000A;
+pub const REALM: u16 = 0x0014;
+pub const NONCE: u16 = 0x0015;
+pub const XOR_MAPPED_ADDRESS: u16 = 0x0020;
+pub const SOFTWARE: u16 = 0x8022;
+pub const ALTERNATE_SERVER: u16 = 0x8023;
+pub const FINGERPRINT: u16 = 0x8028;
+
+// Families.
+pub const IPV4: u8 = 1;
+pub const IPV6: u8 = 2;
+
+// The `what` of a reading.
+pub const WHOLE: u8 = 0;
+pub const BROKEN: u8 = 1;
+pub const REFUSED: u8 = 2;
+
+// The `what` of a step.
+pub const ATTRIBUTE: u8 = 0;
+pub const END: u8 = 1;
+pub const CUT: u8 = 2;
+
+// What a rule asks of a value besides its size.
+pub const RULE_PLAIN: u8 = 0;
+pub const RULE_ADDRESS: u8 = 1;
+pub const RULE_TEXT: u8 = 2;
+pub const RULE_CODE: u8 = 3;
+pub const RULE_TYPES: u8 = 4;
+
+// Where a sum by `cratehoist_crc32_update` starts.
+pub const CRC32_START: u32 = 0xFFFF_FFFF;
+
+// No message is longer.
+pub const LONGEST: usize = 65552;
 
 #[repr(C)]
 #[derive(Debug, Clone, Copy, PartialEq, Eq)]
-#[allow(missing_docs)]
 pub struct Id {
     pub bytes: [u8; 12],
 }
 
 #[repr(C)]
 #[derive(Debug, Clone, Copy, PartialEq, Eq)]
-#[allow(missing_docs)]
 pub struct Address {
     pub family: u8,
     pub port: u16,
@@ -18,7 +67,6 @@ pub struct Address {
 
 #[repr(C)]
 #[derive(Debug, Clone, Copy, PartialEq, Eq)]
-#[allow(missing_docs)]
 pub struct Numbered {
     pub number: u8,
     pub value: u16,
@@ -26,7 +74,6 @@ pub struct Numbered {
 
 #[repr(C)]
 #[derive(Debug, Clone, Copy, PartialEq, Eq)]
-#[allow(missing_docs)]
 pub struct Parted {
     pub number: u8,
     pub message_class: u16,
@@ -35,7 +82,6 @@ pub struct Parted {
 
 #[repr(C)]
 #[derive(Debug, Clone, Copy, PartialEq, Eq)]
-#[allow(missing_docs)]
 pub struct Formed {
     pub number: u8,
     pub address: Address,
@@ -43,7 +89,6 @@ pub struct Formed {
 
 #[repr(C)]
 #[derive(Debug, Clone, Copy, PartialEq, Eq)]
-#[allow(missing_docs)]
 pub struct Header {
     pub number: u8,
     pub message_class: u16,
@@ -54,7 +99,6 @@ pub struct Header {
 
 #[repr(C)]
 #[derive(Debug, Clone, Copy, PartialEq, Eq)]
-#[allow(missing_docs)]
 pub struct Step {
     pub what: u8,
     pub kind: u16,
@@ -66,7 +110,6 @@ pub struct Step {
 
 #[repr(C)]
 #[derive(Debug, Clone, Copy, PartialEq, Eq)]
-#[allow(missing_docs)]
 pub struct Reading {
     pub what: u8,
     pub number: u8,
@@ -79,7 +122,6 @@ pub struct Reading {
 
 #[repr(C)]
 #[derive(Debug, Clone, Copy, PartialEq, Eq)]
-#[allow(missing_docs)]
 pub struct Sizes {
     pub known: bool,
     pub least: u16,
@@ -88,7 +130,6 @@ pub struct Sizes {
 
 #[repr(C)]
 #[derive(Debug, Clone, Copy, PartialEq, Eq)]
-#[allow(missing_docs)]
 pub struct First {
     pub there: bool,
     pub place: usize,
@@ -97,7 +138,6 @@ pub struct First {
 
 #[repr(C)]
 #[derive(Debug, Clone, Copy, PartialEq, Eq)]
-#[allow(missing_docs)]
 pub struct Part {
     pub there: bool,
     pub start: usize,
@@ -106,7 +146,6 @@ pub struct Part {
 
 #[repr(C)]
 #[derive(Debug, Clone, Copy, PartialEq, Eq)]
-#[allow(missing_docs)]
 pub struct Typed {
     pub number: u8,
     pub family: u8,
@@ -119,7 +158,6 @@ pub struct Typed {
 
 #[repr(C)]
 #[derive(Debug, Clone, Copy, PartialEq, Eq)]
-#[allow(missing_docs)]
 pub struct Written {
     pub number: u8,
     pub size: usize,
@@ -127,7 +165,6 @@ pub struct Written {
 
 #[repr(C)]
 #[derive(Debug, Clone, Copy, PartialEq, Eq)]
-#[allow(missing_docs)]
 pub struct Plan {
     pub number: u8,
     pub place: usize,
@@ -137,14 +174,12 @@ pub struct Plan {
 
 #[repr(C)]
 #[derive(Debug, Clone, Copy, PartialEq, Eq)]
-#[allow(missing_docs)]
 pub struct Digest {
     pub bytes: [u8; 20],
 }
 
 #[repr(C)]
 #[derive(Debug, Clone, Copy, PartialEq, Eq)]
-#[allow(missing_docs)]
 pub struct Hex {
     pub what: u8,
     pub at: usize,
@@ -152,7 +187,6 @@ pub struct Hex {
 
 #[repr(C)]
 #[derive(Debug, Clone, Copy, PartialEq, Eq)]
-#[allow(missing_docs)]
 pub struct Number {
     pub there: bool,
     pub value: u64,
@@ -160,13 +194,11 @@ pub struct Number {
 
 #[repr(C)]
 #[derive(Debug, Clone, Copy, PartialEq, Eq)]
-#[allow(missing_docs)]
 pub struct Name {
     pub text: [u8; 32],
     pub size: usize,
 }
 
-#[allow(missing_docs)]
 extern "C" {
     pub fn cratehoist_type_number(message_class: u16, method: u16) -> Numbered;
     pub fn cratehoist_type_from(value: u16) -> Parted;

@@ -13,9 +13,10 @@ pub const NUMBERS: [u8; 19] = [
 ];
 pub const NEVER: u8 = 16;
 
-/// How often each call was compared, by the number that it told.
+/// How many cases came by chance, and how often each call was compared, by the number that it told.
 #[derive(Default)]
 pub struct Tally {
+    pub cases: u64,
     pub told: BTreeMap<&'static str, BTreeMap<u8, u64>>,
 }
 

@@ -31,6 +31,7 @@ pub fn run(cases: u64, seed: u64, longer: bool) -> Tally {
     every::large(&mut t, &mut r, if longer { 1 } else { 20 });
     for _ in 0..cases {
         chance::case(&mut t, &mut r);
+        t.cases += 1;
     }
     t
 }

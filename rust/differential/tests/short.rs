@@ -12,8 +12,9 @@ fn no_difference_and_every_number() {
         .map(|&number| format!("{number}: {}", tally.count(number)))
         .collect();
     println!(
-        "compared {} calls, by the number told: {}",
+        "compared {} calls, in {} cases from the seed and all without chance, by the number told: {}",
         tally.calls(),
+        tally.cases,
         told.join(", ")
     );
 }

@@ -3,7 +3,7 @@ use crate::attribute::{Append, Attribute, AttributeType, RawAttribute};
 use crate::calls::{self, Typed};
 use crate::message::MessageEncoder;
 use crate::rfc5389::errors;
-use crate::{net, Error, Message, Result};
+use crate::{net, sys, Error, Message, Result};
 use core::net::SocketAddr;
 
 /// What a value says: the reader let it through, so typed reading takes it.
@@ -19,13 +19,13 @@ fn text<'a>(raw: &RawAttribute<'a>, said: &Typed) -> Option<&'a str> {
 }
 
 macro_rules! addresses {
-    ($($kind:ident $code:literal $name:literal),*) => {$(
+    ($($kind:ident $code:ident $name:literal),*) => {$(
         #[doc = concat!("`", $name, "` attribute.")]
         #[derive(Debug, Clone, Copy, PartialEq, Eq, Hash)]
         pub struct $kind(SocketAddr);
         impl $kind {
             /// The type of the attribute.
-            pub const CODEPOINT: u16 = $code;
+            pub const CODEPOINT: u16 = sys::$code;
 
             /// The attribute of an address, given plain.
             pub fn new(addr: SocketAddr) -> Self {
@@ -38,37 +38,37 @@ macro_rules! addresses {
             }
         }
         impl<'a> Attribute<'a> for $kind {
-            const CODEPOINT: u16 = $code;
+            const CODEPOINT: u16 = sys::$code;
 
             fn from_raw(message: &Message<'a>, raw: RawAttribute<'a>) -> Option<Self> {
-                typed(message, &raw, $code).map(|said| $kind(net::given(said.family, said.port, said.ip)))
+                typed(message, &raw, sys::$code).map(|said| $kind(net::given(said.family, said.port, said.ip)))
             }
         }
         impl Append for $kind {
             fn append_to(&self, message: &mut MessageEncoder<'_>) -> Result<()> {
-                message.write(|buffer| calls::append_address(buffer, $code, net::lent(self.0)))
+                message.write(|buffer| calls::append_address(buffer, sys::$code, net::lent(self.0)))
             }
         }
     )*};
 }
 addresses!(
-    MappedAddress 0x0001 "MAPPED-ADDRESS",
-    XorMappedAddress 0x0020 "XOR-MAPPED-ADDRESS",
-    AlternateServer 0x8023 "ALTERNATE-SERVER"
+    MappedAddress MAPPED_ADDRESS "MAPPED-ADDRESS",
+    XorMappedAddress XOR_MAPPED_ADDRESS "XOR-MAPPED-ADDRESS",
+    AlternateServer ALTERNATE_SERVER "ALTERNATE-SERVER"
 );
 
 macro_rules! texts {
-    ($($kind:ident $field:ident $code:literal $most:literal $name:literal),*) => {$(
+    ($($kind:ident $field:ident $code:ident $most:literal $name:literal),*) => {$(
         #[doc = concat!("`", $name, "` attribute.")]
         #[derive(Debug, Clone, Copy, PartialEq, Eq, Hash)]
         pub struct $kind<'a>(&'a str);
         impl<'a> $kind<'a> {
             /// The type of the attribute.
-            pub const CODEPOINT: u16 = $code;
+            pub const CODEPOINT: u16 = sys::$code;
 
             #[doc = concat!("The attribute of a text of up to ", $most, " bytes; a longer one is refused by 23.")]
             pub fn new($field: &'a str) -> Result<Self> {
-                Error::unless(calls::refusal($code, $field.as_bytes()))?;
+                Error::unless(calls::refusal(sys::$code, $field.as_bytes()))?;
                 Ok($kind($field))
             }
 
@@ -78,24 +78,24 @@ macro_rules! texts {
             }
         }
         impl<'a> Attribute<'a> for $kind<'a> {
-            const CODEPOINT: u16 = $code;
+            const CODEPOINT: u16 = sys::$code;
 
             fn from_raw(message: &Message<'a>, raw: RawAttribute<'a>) -> Option<Self> {
-                typed(message, &raw, $code).and_then(|said| text(&raw, &said)).map($kind)
+                typed(message, &raw, sys::$code).and_then(|said| text(&raw, &said)).map($kind)
             }
         }
         impl Append for $kind<'_> {
             fn append_to(&self, message: &mut MessageEncoder<'_>) -> Result<()> {
-                message.write(|buffer| calls::append_text(buffer, $code, self.0.as_bytes()))
+                message.write(|buffer| calls::append_text(buffer, sys::$code, self.0.as_bytes()))
             }
         }
     )*};
 }
 texts!(
-    Username name 0x0006 512 "USERNAME",
-    Realm text 0x0014 127 "REALM",
-    Nonce value 0x0015 127 "NONCE",
-    Software description 0x8022 127 "SOFTWARE"
+    Username name USERNAME 512 "USERNAME",
+    Realm text REALM 127 "REALM",
+    Nonce value NONCE 127 "NONCE",
+    Software description SOFTWARE 127 "SOFTWARE"
 );
 
 impl Software<'static> {
@@ -118,7 +118,7 @@ pub struct ErrorCode<'a> {
 }
 impl<'a> ErrorCode<'a> {
     /// The type of the attribute.
-    pub const CODEPOINT: u16 = 0x0009;
+    pub const CODEPOINT: u16 = sys::ERROR_CODE;
 
     /// The attribute of a code from 300 to 699 and a phrase of up to 127 bytes; others are refused by 23.
     ///
@@ -165,7 +165,7 @@ impl From<Error> for ErrorCode<'static> {
     }
 }
 impl<'a> Attribute<'a> for ErrorCode<'a> {
-    const CODEPOINT: u16 = 0x0009;
+    const CODEPOINT: u16 = sys::ERROR_CODE;
 
     fn from_raw(message: &Message<'a>, raw: RawAttribute<'a>) -> Option<Self> {
         let said = typed(message, &raw, Self::CODEPOINT)?;
@@ -188,7 +188,7 @@ impl Append for ErrorCode<'_> {
 pub struct UnknownAttributes<'a>(&'a [AttributeType]);
 impl<'a> UnknownAttributes<'a> {
     /// The type of the attribute.
-    pub const CODEPOINT: u16 = 0x000A;
+    pub const CODEPOINT: u16 = sys::UNKNOWN_ATTRIBUTES;
 
     /// The attribute of some types.
     pub fn new(unknowns: &'a [AttributeType]) -> Self {
@@ -201,7 +201,7 @@ impl<'a> UnknownAttributes<'a> {
     }
 }
 impl<'a> Attribute<'a> for UnknownAttributes<'a> {
-    const CODEPOINT: u16 = 0x000A;
+    const CODEPOINT: u16 = sys::UNKNOWN_ATTRIBUTES;
 
     fn from_raw(message: &Message<'a>, raw: RawAttribute<'a>) -> Option<Self> {
         typed(message, &raw, Self::CODEPOINT)
@@ -225,7 +225,7 @@ pub struct MessageIntegrity<'a> {
 }
 impl MessageIntegrity<'_> {
     /// The type of the attribute.
-    pub const CODEPOINT: u16 = 0x0008;
+    pub const CODEPOINT: u16 = sys::MESSAGE_INTEGRITY;
 
     /// Checks it for short-term credentials: the key is the password's bytes.
     pub fn check_short_term_credential(
@@ -252,7 +252,7 @@ impl MessageIntegrity<'_> {
     }
 }
 impl<'a> Attribute<'a> for MessageIntegrity<'a> {
-    const CODEPOINT: u16 = 0x0008;
+    const CODEPOINT: u16 = sys::MESSAGE_INTEGRITY;
 
     fn from_raw(message: &Message<'a>, raw: RawAttribute<'a>) -> Option<Self> {
         typed(message, &raw, Self::CODEPOINT)?;
@@ -272,7 +272,7 @@ pub struct Fingerprint {
 }
 impl Fingerprint {
     /// The type of the attribute.
-    pub const CODEPOINT: u16 = 0x8028;
+    pub const CODEPOINT: u16 = sys::FINGERPRINT;
 
     /// The value.
     pub fn crc32(&self) -> u32 {
@@ -280,7 +280,7 @@ impl Fingerprint {
     }
 }
 impl<'a> Attribute<'a> for Fingerprint {
-    const CODEPOINT: u16 = 0x8028;
+    const CODEPOINT: u16 = sys::FINGERPRINT;
 
     fn from_raw(message: &Message<'a>, raw: RawAttribute<'a>) -> Option<Self> {
         typed(message, &raw, Self::CODEPOINT).map(|_| Fingerprint {

@@ -1,5 +1,5 @@
 //! The method of RFC 5389.
-use crate::Method;
+use crate::{sys, Method};
 
 /// Binding method.
-pub const BINDING: Method = Method(0x0001);
+pub const BINDING: Method = Method(sys::BINDING);
