@@ -57,7 +57,7 @@ fn xor_ip(family: Family, ip: [u8; 16], id: [u8; 12]) -> [u8; 16]
     ensures { λ r. ⌜ r ≡ xored ip (take (ipSize family) (cookie ++ id)) ⌝ }
 {
     let mut out = ip;
-    xor_bytes(&mut out, b"\x21\x12\xA4\x42");
+    xor_bytes(&mut out, &constants::MAGIC_COOKIE);
     match family {
         Family::Ipv4 => out,
         Family::Ipv6 => {
