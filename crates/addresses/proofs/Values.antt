@@ -4,7 +4,8 @@ use mathlib.Core.List.{List, [], _∷_, _++_, append-nil}
 use mathlib.Core.Path.{_≡_, refl, sym, ap, ap₂, _∙_}
 use native.Mathlib.Omega.{arith}
 use lib.ListN.{length, take, drop, set, replicate, drop-of-length-le}
-use Rattle.base.specs.Laid.{laid, laid-is}
+use Rattle.base.specs.LaidLaws.{laid-is}
+use Rattle.base.specs.Laid.{laid}
 use Rattle.numbers.specs.Numbers.{two}
 use Rattle.buffers.specs.Put.{put}
 use Rattle.buffers.specs.PutLaws.{put-laid, put-behind}

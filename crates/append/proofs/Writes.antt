@@ -4,7 +4,8 @@ use mathlib.Core.List.{List, _++_}
 use mathlib.Core.Path.{_≡_, ap, _∙_}
 use native.Mathlib.Omega.{arith}
 use lib.ListN.{length, length-append}
-use Rattle.base.specs.Laid.{laid, length-laid}
+use Rattle.base.specs.LaidLaws.{length-laid}
+use Rattle.base.specs.Laid.{laid}
 use Rattle.numbers.specs.Numbers.{two}
 use Rattle.buffers.specs.Put.{put}
 use Rattle.buffers.specs.PutLaws.{put-laid, put-behind}

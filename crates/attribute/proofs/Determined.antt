@@ -1,7 +1,8 @@
 -- The contracts of the public calls determine what they answer.
 use Prim.Native.Nat.{ℕ}
 use mathlib.Core.List.{List}
-use Rattle.base.specs.Determined.{Determines, by}
+use Rattle.base.specs.DeterminedLaws.{by}
+use Rattle.base.specs.Determined.{Determines}
 use Rattle.attribute.specs.Walk.{stepAt, walkAt}
 use Rattle.attribute.specs.SaidLaws.{walk-one}
 use Rattle.attribute.specs.declared.Walk.{Walk}

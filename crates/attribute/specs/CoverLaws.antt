@@ -14,16 +14,12 @@ use Rattle.header.specs.Header.{headerFault}
 use Rattle.header.specs.HeaderLaws as header
 use Rattle.attribute.specs.Attribute.{padded, Attr, Body, stop, more, attrs, rest, attrOf, parse, bytesOf, allBytes}
 use Rattle.attribute.specs.Walk.{stepAt, walkAt}
+use Rattle.attribute.specs.Visits.{found, Visits, over, meets, placed, sizes}
 use Rattle.attribute.specs.WalkLaws.{At, beyond, ended, short, long, attribute, view, at-step, ahead}
 use Rattle.attribute.specs.BodyLaws.{bodyOf, unroll}
-use Rattle.attribute.specs.ScanLaws.{found, found-length}
+use Rattle.attribute.specs.ScanLaws.{found-length}
 use Rattle.attribute.specs.declared.Walk.{Walk}
 use Rattle.attribute.specs.declared.Walk.the-variants.{Attribute, End}
-
--- 4 plus the padded size, summed
-abbrev pub sizes : List Attr → ℕ
-sizes [] = 0
-sizes (a ∷ xs) = 4 + padded (length (a .value)) + sizes xs
 
 size-case : (a b c e : ℕ) (r : List ℕ) (x : Body) → sizes (attrs x) + length (rest x) ≡ length r - padded (c * 256 + e)
     → Dec (length r < padded (c * 256 + e))
@@ -50,16 +46,6 @@ sizes-rest zero (a ∷ b ∷ c ∷ e ∷ r) =
 pub sizes-least : (xs : List Attr) → 4 * length xs ≤ sizes xs
 sizes-least [] = omega arith
 sizes-least (a ∷ xs) = omega (arith, sizes-least xs)
-
--- following the walk from p to the end meets the attributes xs, each at its place, in order
-pub data Visits (d : List ℕ) : ℕ → List (ℕ × Attr) → Type 0 where
-  over : {p : ℕ} → walkAt d p ≡ End p → Visits d p []
-  meets : {p k v n x : ℕ} {xs : List (ℕ × Attr)} → walkAt d p ≡ Attribute p k v n x → Visits d x xs → Visits d p ((p, found d k v n x) ∷ xs)
-
--- attributes one behind the other, the first at p
-abbrev pub placed : ℕ → List Attr → List (ℕ × Attr)
-placed p [] = []
-placed p (a ∷ xs) = (p, a) ∷ placed (p + length (bytesOf a)) xs
 
 pub placed-one : (p : ℕ) (xs : List Attr) (a : Attr) → placed p (xs ++ (a ∷ [])) ≡ placed p xs ++ ((p + length (allBytes xs), a) ∷ [])
 placed-one p [] a = let e : p ≡ p + 0 = omega arith in ap (λ (q : ℕ). (q, a) ∷ []) e

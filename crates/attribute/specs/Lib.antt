@@ -1,7 +1,9 @@
 pub mod Attribute
 pub mod Walk
+pub mod Visits
 pub mod WalkLaws
 pub mod BodyLaws
+pub mod Good
 pub mod RoundTrip
 pub mod Scan
 pub mod ScanLaws

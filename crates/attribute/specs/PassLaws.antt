@@ -9,13 +9,8 @@ use lib.ListN.{length}
 use lib.Dec.{eqb}
 use Rattle.base.specs.Choice.{pick}
 use Rattle.attribute.specs.Attribute.{Attr, Body, stop, more, attrs, rest, bytesOf}
-use Rattle.attribute.specs.Scan.{scan}
+use Rattle.attribute.specs.Scan.{scan, Pass}
 use Rattle.attribute.specs.declared.Scan.the-variants.{Passed, Fault}
-
--- each attribute of a list passes, the first of them at p
-abbrev pub Pass : (ℕ → Attr → ℕ) → ℕ → List Attr → Type 0
-Pass f p [] = Unit {0}
-Pass f p (a ∷ xs) = (f p a ≡ 0) × Pass f (p + length (bytesOf a)) xs
 
 -- what it means that the scan of b, behind n attributes, passed m
 pub record AllPass (f : ℕ → Attr → ℕ) (n p : ℕ) (b : Body) (m : ℕ) : Type 0 where

@@ -11,17 +11,8 @@ use lib.Seq.{length-take-le, take-at, drop-at, drop-drop, take-add}
 use Rattle.base.specs.Choice.{pick}
 use Rattle.base.specs.Bytes.{Bytes}
 use Rattle.attribute.specs.Attribute.{padded, Attr, Body, stop, more, attrs, rest, attrOf, parse, bytesOf, allBytes}
+use Rattle.attribute.specs.Good.{Good, Goods}
 use Rattle.attribute.specs.BodyLaws.{parse-none, parse-short, parse-attr, parse-long, parse-skip}
-
--- an attribute that can be written
-pub record Good (a : Attr) : Type 0 where
-  pub kind-fits : a .kind < 65536
-  pub size-fits : length (a .value) < 65536
-  pub padding : length (a .value) + length (a .pad) ≡ padded (length (a .value))
-
-abbrev pub Goods : List Attr → Type 0
-Goods [] = Unit {0}
-Goods (a ∷ xs) = Good a × Goods xs
 
 -- the attributes xs, and then what b is
 abbrev pub before : List Attr → Body → Body

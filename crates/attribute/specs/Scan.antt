@@ -1,6 +1,7 @@
 -- Attributes judged in order: the first fault decides, with its place (docs/SCOPE.md, "Reading a datagram").
 use Prim.Native.Nat.{ℕ, _+_}
 use mathlib.Core.List.{List, [], _∷_}
+use mathlib.Core.Path.{_≡_}
 use lib.ListN.{length, drop}
 use lib.Dec.{eqb}
 use Rattle.base.specs.Choice.{pick}
@@ -23,3 +24,8 @@ scan fault n p (more a b) = pick (eqb (fault p a) 0) (scan fault (n + 1) (p + le
 -- all attributes of a datagram
 unfoldable pub scanned : (ℕ → Attr → ℕ) → List ℕ → Scan
 scanned fault d = scan fault 0 20 (parse 0 (drop 20 d))
+
+-- each attribute of a list passes, the first of them at p
+abbrev pub Pass : (ℕ → Attr → ℕ) → ℕ → List Attr → Type 0
+Pass f p [] = Unit {0}
+Pass f p (a ∷ xs) = (f p a ≡ 0) × Pass f (p + length (bytesOf a)) xs

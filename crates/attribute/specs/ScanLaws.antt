@@ -7,6 +7,7 @@ use borrow.Author.Tests.{eq-eqb, ne-eqb}
 use lib.ListN.{length, take, drop, length-append, length-take, length-drop}
 use Rattle.attribute.specs.Attribute.{padded, Attr, Body, stop, more, bytesOf, parse}
 use Rattle.attribute.specs.Walk.{stepAt}
+use Rattle.attribute.specs.Visits.{found}
 use Rattle.attribute.specs.WalkLaws.{ended, Ahead, ahead, Stops, seen}
 use Rattle.attribute.specs.BodyLaws.{unroll, body-seen, stopped}
 use Rattle.attribute.specs.Scan.{scan, scanned}
@@ -14,10 +15,6 @@ use Rattle.attribute.specs.declared.Walk.{Walk}
 use Rattle.attribute.specs.declared.Walk.the-variants.{Attribute}
 use Rattle.attribute.specs.declared.Scan.{Scan}
 use Rattle.attribute.specs.declared.Scan.the-variants.{Passed, Fault}
-
--- the attribute that a step finds
-abbrev pub found : List ℕ → ℕ → ℕ → ℕ → ℕ → Attr
-found d k v n x = record { kind = k; value = take n (drop v d); pad = take (x - v - n) (drop (v + n) d) }
 
 -- behind n attributes, at a place from where judging comes to t
 pub record Scanning (f : ℕ → Attr → ℕ) (d : List ℕ) (at n : ℕ) (t : Scan) : Type 0 where

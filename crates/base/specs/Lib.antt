@@ -2,10 +2,14 @@ pub mod Choice
 pub mod Said
 pub mod SaidLaws
 pub mod Bytes
+pub mod BytesLaws
 pub mod Lists
 pub mod Xor
 pub mod Laid
+pub mod LaidLaws
 pub mod Filling
 pub mod Same
+pub mod SameLaws
 pub mod Determined
+pub mod DeterminedLaws
 pub mod Through

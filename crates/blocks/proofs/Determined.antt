@@ -1,7 +1,8 @@
 -- The contract of the public call determines its result.
 use Prim.Native.Nat.{ℕ}
 use mathlib.Core.List.{List}
-use Rattle.base.specs.Determined.{Determines, by}
+use Rattle.base.specs.DeterminedLaws.{by}
+use Rattle.base.specs.Determined.{Determines}
 use Rattle.blocks.specs.Block.{blockOf}
 use Rattle.blocks.proofs.block.Kinds as block
 use Rattle.blocks.proofs.block.Reads as block-reads

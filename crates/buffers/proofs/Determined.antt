@@ -3,7 +3,8 @@ use Prim.Native.Nat.{ℕ}
 use mathlib.Core.Bool.{Bool}
 use mathlib.Core.List.{List}
 use mathlib.Core.Path.{ap₂}
-use Rattle.base.specs.Determined.{Determines, by}
+use Rattle.base.specs.DeterminedLaws.{by}
+use Rattle.base.specs.Determined.{Determines}
 use Rattle.numbers.specs.Numbers.{two, four}
 use Rattle.buffers.specs.Put.{fitsAt, put}
 use Rattle.buffers.proofs.put_bytes.Kinds as put-bytes

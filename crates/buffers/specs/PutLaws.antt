@@ -4,7 +4,8 @@ use mathlib.Core.List.{List, _++_}
 use mathlib.Core.Path.{_≡_, _∙_}
 use borrow.Author.Tests.{le-leb}
 use lib.ListN.{length}
-use Rattle.base.specs.Laid.{laid, length-laid, laid-append}
+use Rattle.base.specs.LaidLaws.{length-laid, laid-append}
+use Rattle.base.specs.Laid.{laid}
 use Rattle.buffers.specs.Put.{fitsAt, put}
 
 pub put-laid : (l : List ℕ) (p : ℕ) (s : List ℕ) → p + length s ≤ length l → put l p s ≡ laid l p s

@@ -1,7 +1,8 @@
 -- The contract of each public call determines its answer.
 use Prim.Native.Nat.{ℕ}
 use mathlib.Core.List.{List}
-use Rattle.base.specs.Determined.{Determines, by}
+use Rattle.base.specs.DeterminedLaws.{by}
+use Rattle.base.specs.Determined.{Determines}
 use Rattle.byte_tables.specs.Tables.{byteRows, fourBy, eightBy}
 use Rattle.byte_tables.proofs.four_by.Kinds as four-by
 use Rattle.byte_tables.proofs.four_by.Reads as four-by-reads

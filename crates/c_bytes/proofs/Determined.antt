@@ -3,7 +3,8 @@ use Prim.Native.Nat.{ℕ}
 use mathlib.Core.List.{List}
 use mathlib.Core.Bool.{Bool}
 use mathlib.Core.Path.{ap₂}
-use Rattle.base.specs.Determined.{Determines, by}
+use Rattle.base.specs.DeterminedLaws.{by}
+use Rattle.base.specs.Determined.{Determines}
 use Rattle.numbers.specs.Numbers.{be16, be32, two, four}
 use Rattle.buffers.specs.Put.{fitsAt, put}
 use Rattle.c_bytes.proofs.cratehoist_u16_at.Kinds as u16-at-kinds

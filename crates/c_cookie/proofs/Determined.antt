@@ -3,7 +3,8 @@ use Prim.Native.Nat.{ℕ}
 use mathlib.Core.List.{List}
 use mathlib.Core.Bool.{Bool}
 use mathlib.Core.Path.{ap₂}
-use Rattle.base.specs.Determined.{Determines, by}
+use Rattle.base.specs.DeterminedLaws.{by}
+use Rattle.base.specs.Determined.{Determines}
 use Rattle.buffers.specs.Put.{fitsAt, put}
 use Rattle.constants.specs.Cookie.{cookie, cookieAt}
 use Rattle.net.specs.Net.{xored}

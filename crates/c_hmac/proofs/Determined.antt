@@ -2,7 +2,8 @@
 use Prim.Native.Nat.{ℕ}
 use mathlib.Core.List.{List}
 use mathlib.Core.Bool.{Bool}
-use Rattle.base.specs.Determined.{Determines, by}
+use Rattle.base.specs.DeterminedLaws.{by}
+use Rattle.base.specs.Determined.{Determines}
 use lib.ListN.{take}
 use Rattle.base.specs.Same.{same}
 use Rattle.sha1.specs.Sha1.{sha1}

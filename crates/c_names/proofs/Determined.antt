@@ -1,6 +1,7 @@
 -- The contracts of the calls determine their answers.
 use Prim.Native.Nat.{ℕ}
-use Rattle.base.specs.Determined.{Determines, by}
+use Rattle.base.specs.DeterminedLaws.{by}
+use Rattle.base.specs.Determined.{Determines}
 use Rattle.names.specs.Names.{attributeName, codeName, numberName, methodName}
 use Rattle.c_names.specs.Said.{told, classTold}
 use Rattle.c_names.specs.declared.Name.{Name}

@@ -2,7 +2,8 @@
 use Prim.Native.Nat.{ℕ}
 use mathlib.Core.List.{List}
 use mathlib.Core.Bool.{Bool}
-use Rattle.base.specs.Determined.{Determines, by}
+use Rattle.base.specs.DeterminedLaws.{by}
+use Rattle.base.specs.Determined.{Determines}
 use Rattle.crc.specs.Crc.{bytesFrom, finished, crc32Of}
 use Rattle.unicode.specs.Utf8.{isUtf8}
 use Rattle.unicode.specs.Points.{points}

@@ -2,7 +2,8 @@
 use Prim.Native.Nat.{ℕ}
 use mathlib.Core.List.{List}
 use mathlib.Core.Path.{ap₂}
-use Rattle.base.specs.Determined.{Determines, by}
+use Rattle.base.specs.DeterminedLaws.{by}
+use Rattle.base.specs.Determined.{Determines}
 use Rattle.digits.specs.Digit.{firstBad}
 use Rattle.digits.specs.Number.{numberOf}
 use Rattle.text.specs.Hex.{hexOf, read, shown, showing}

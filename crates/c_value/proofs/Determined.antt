@@ -2,7 +2,8 @@
 use Prim.Native.Nat.{ℕ}
 use mathlib.Core.List.{List}
 use mathlib.Core.Bool.{Bool}
-use Rattle.base.specs.Determined.{Determines, by}
+use Rattle.base.specs.DeterminedLaws.{by}
+use Rattle.base.specs.Determined.{Determines}
 use Rattle.rfc5389.specs.Rows.{rfc5389}
 use Rattle.value.specs.First.{firstIn, first, placed, isThere}
 use Rattle.integrity.specs.Integrity.{integrityFault}

@@ -1,7 +1,8 @@
 -- The contracts of the calls determine their answers.
 use Prim.Native.Nat.{ℕ}
 use mathlib.Core.List.{List}
-use Rattle.base.specs.Determined.{Determines, by}
+use Rattle.base.specs.DeterminedLaws.{by}
+use Rattle.base.specs.Determined.{Determines}
 use Rattle.header.specs.Header.{frontOf, headerOf}
 use Rattle.attribute.specs.Walk.{stepAt, walkAt}
 use Rattle.c_walk.specs.Said.{headed, stepped}

@@ -1,7 +1,8 @@
 -- The contracts of the calls determine their answers and the buffer.
 use Prim.Native.Nat.{ℕ}
 use mathlib.Core.List.{List}
-use Rattle.base.specs.Determined.{Determines, by}
+use Rattle.base.specs.DeterminedLaws.{by}
+use Rattle.base.specs.Determined.{Determines}
 use Rattle.wire.specs.TypeNumber.{classNumbered, typeFrom}
 use Rattle.c_wire.specs.Said.{numbered, parted, formOf}
 use Rattle.c_wire.specs.declared.Address.{Address}

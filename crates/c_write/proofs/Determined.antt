@@ -2,7 +2,8 @@
 use Prim.Native.Nat.{ℕ}
 use mathlib.Core.List.{List}
 use mathlib.Core.Path.{ap₂}
-use Rattle.base.specs.Determined.{Determines, by}
+use Rattle.base.specs.DeterminedLaws.{by}
+use Rattle.base.specs.Determined.{Determines}
 use Rattle.plan.specs.Plan.{planOf}
 use Rattle.append.specs.Append.{attr, answer, appended}
 use Rattle.c_write.specs.Said.{told, begunBy, leftBy, planned}

@@ -1,7 +1,8 @@
 -- The contract of the public call determines its result.
 use Prim.Native.Nat.{ℕ}
 use mathlib.Core.List.{List}
-use Rattle.base.specs.Determined.{Determines, by}
+use Rattle.base.specs.DeterminedLaws.{by}
+use Rattle.base.specs.Determined.{Determines}
 use Rattle.compression.specs.declared.State.{State}
 use Rattle.compression.specs.Compression.{run}
 use Rattle.compression.proofs.absorb.Kinds as absorb

@@ -7,7 +7,8 @@ use native.Mathlib.Omega.{arith}
 use native.Mathlib.Numerals.{add-one}
 use lib.ListN.{length, getD, take, drop, length-take, length-drop, drop-of-length-le}
 use lib.Seq.{getD-take, getD-drop}
-use Rattle.base.specs.Same.{same, same-turn, same-differs, same-eq}
+use Rattle.base.specs.SameLaws.{same-turn, same-differs, same-eq}
+use Rattle.base.specs.Same.{same}
 use Rattle.constants.specs.Cookie.{cookie, cookieAt}
 
 -- the four bytes to be compared

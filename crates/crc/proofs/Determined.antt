@@ -1,6 +1,7 @@
 -- The contract of the public call determines its answer.
 use Prim.Native.Nat.{ℕ}
-use Rattle.base.specs.Determined.{Determines, by}
+use Rattle.base.specs.DeterminedLaws.{by}
+use Rattle.base.specs.Determined.{Determines}
 use Rattle.crc.specs.Octets.{times}
 use Rattle.crc.proofs.product.Kinds as product
 use Rattle.crc.proofs.product.Reads as product-reads

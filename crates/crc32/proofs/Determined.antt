@@ -1,7 +1,8 @@
 -- The contract of each public call determines its answer.
 use Prim.Native.Nat.{ℕ}
 use mathlib.Core.List.{List}
-use Rattle.base.specs.Determined.{Determines, by}
+use Rattle.base.specs.DeterminedLaws.{by}
+use Rattle.base.specs.Determined.{Determines}
 use Rattle.crc.specs.Crc.{bytesFrom, finished, crc32Of}
 use Rattle.crc32.proofs.update.Kinds as update
 use Rattle.crc32.proofs.update.Reads as update-reads

@@ -11,7 +11,8 @@ use lib.Seq.{drop-cons}
 use lib.Dec.{eqb}
 use lib.Bits.{bitOr, bitXor, or-zero-l, or-add-and, and-le-l, and-le-r, xor-self}
 use Rattle.base.specs.Xor.{xor-eq}
-use Rattle.base.specs.Same.{same, same-eq}
+use Rattle.base.specs.SameLaws.{same-eq}
+use Rattle.base.specs.Same.{same}
 
 -- nought gathered: nothing before and nothing now
 or-nought-l : (x y : ℕ) → bitOr x y ≡ 0 → x ≡ 0

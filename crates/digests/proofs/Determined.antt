@@ -2,7 +2,8 @@
 use Prim.Native.Nat.{ℕ}
 use mathlib.Core.Bool.{Bool}
 use mathlib.Core.List.{List}
-use Rattle.base.specs.Determined.{Determines, by}
+use Rattle.base.specs.DeterminedLaws.{by}
+use Rattle.base.specs.Determined.{Determines}
 use Rattle.base.specs.Same.{same}
 use Rattle.digests.proofs.same_digest.Kinds as same-digest
 use Rattle.digests.proofs.same_digest.Reads as same-digest-reads

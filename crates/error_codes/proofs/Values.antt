@@ -9,7 +9,7 @@ use borrow.Author.Tests.{lt-ltb, le-ltb}
 use lib.ListN.{length, take, drop, set, replicate}
 use lib.Seq.{take-at}
 use lib.Dec.{ltb}
-use Rattle.base.specs.Laid.{laid-is}
+use Rattle.base.specs.LaidLaws.{laid-is}
 use Rattle.buffers.specs.Put.{put}
 use Rattle.buffers.specs.PutLaws.{put-laid}
 use Rattle.rfc5389.specs.Rows.{rfc5389, look}

@@ -1,7 +1,8 @@
 -- The contract of the public call determines its answer.
 use Prim.Native.Nat.{ℕ}
 use mathlib.Core.Bool.{Bool}
-use Rattle.base.specs.Determined.{Determines, by}
+use Rattle.base.specs.DeterminedLaws.{by}
+use Rattle.base.specs.Determined.{Determines}
 use Rattle.escape.specs.Escape.{escaped}
 use Rattle.escape.proofs.is_escaped.Kinds as is-escaped
 use Rattle.escape.proofs.is_escaped.Reads as is-escaped-reads

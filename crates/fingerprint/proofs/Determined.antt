@@ -1,7 +1,8 @@
 -- The contract of the public call determines what it answers.
 use Prim.Native.Nat.{ℕ}
 use mathlib.Core.List.{List}
-use Rattle.base.specs.Determined.{Determines, by}
+use Rattle.base.specs.DeterminedLaws.{by}
+use Rattle.base.specs.Determined.{Determines}
 use Rattle.fingerprint.specs.Fingerprint.{printed}
 use Rattle.fingerprint.proofs.fingerprint_at.Kinds as print
 use Rattle.fingerprint.proofs.fingerprint_at.Reads as print-reads

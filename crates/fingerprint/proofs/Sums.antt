@@ -7,7 +7,8 @@ use borrow.Author.Tests.{lt-ltb, le-ltb}
 use lib.ListN.{length, getD, take, drop, length-take}
 use lib.Seq.{take-take, take-add}
 use lib.Bits.{bitXor}
-use Rattle.base.specs.Laid.{laid, laid-is}
+use Rattle.base.specs.LaidLaws.{laid-is}
+use Rattle.base.specs.Laid.{laid}
 use Rattle.base.specs.Lists.{drop-take}
 use Rattle.numbers.specs.Numbers.{be16, two, withLength}
 use Rattle.numbers.specs.NumbersLaws.{four-at}

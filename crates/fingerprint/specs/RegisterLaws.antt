@@ -6,7 +6,8 @@ use native.Mathlib.Omega.{arith}
 use lib.ListN.{length, take, drop, length-take, length-drop}
 use lib.Seq.{take-take, take-add, drop-drop}
 use lib.Bits.{bitXor, xor-zero-l, xor-lt}
-use Rattle.base.specs.Laid.{laid, laid-is}
+use Rattle.base.specs.LaidLaws.{laid-is}
+use Rattle.base.specs.Laid.{laid}
 use Rattle.base.specs.Lists.{drop-take}
 use Rattle.numbers.specs.Numbers.{two, withLength}
 use Rattle.crc.specs.Crc.{bitSteps, bytesFrom, finished, crc32Of}

@@ -8,7 +8,8 @@ use native.Mathlib.Decide.{decLe, decLt}
 use lib.ListN.{length, getD, take, drop, length-take, length-drop, take-append-drop, List·getD-eq-default}
 use lib.Seq.{ext-getD, getD-take, getD-drop}
 use lib.Bits.{bitXor}
-use Rattle.base.specs.Bytes.{Bytes, take-bytes, drop-bytes}
+use Rattle.base.specs.BytesLaws.{take-bytes, drop-bytes}
+use Rattle.base.specs.Bytes.{Bytes}
 use Rattle.base.specs.Xor.{xor-cancel}
 use Rattle.numbers.specs.Numbers.{be16, four, withLength}
 use Rattle.numbers.specs.NumbersLaws.{four-once}

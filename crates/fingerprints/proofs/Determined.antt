@@ -1,7 +1,8 @@
 -- The contract of the public call determines what it answers.
 use Prim.Native.Nat.{ℕ}
 use mathlib.Core.List.{List}
-use Rattle.base.specs.Determined.{Determines, by}
+use Rattle.base.specs.DeterminedLaws.{by}
+use Rattle.base.specs.Determined.{Determines}
 use Rattle.attribute.specs.SaidLaws.{scan-one}
 use Rattle.attribute.specs.declared.Scan.{Scan}
 use Rattle.fingerprints.specs.Fingerprints.{printsFrom}

@@ -7,7 +7,8 @@ use native.Mathlib.Omega.{arith}
 use borrow.Author.Tests.{lt-ltb, le-ltb, eq-eqb, ne-eqb}
 use lib.ListN.{length, getD, take, drop, length-take, length-drop}
 use Rattle.base.specs.Choice.{pick}
-use Rattle.base.specs.Same.{same, same-eq, same-refl}
+use Rattle.base.specs.SameLaws.{same-eq, same-refl}
+use Rattle.base.specs.Same.{same}
 use Rattle.numbers.specs.Numbers.{be32, four}
 use Rattle.numbers.specs.NumbersLaws.{be32-bytes, bytes-be32}
 use Rattle.fingerprint.specs.Fingerprint.{fingerprintAt, printed}

@@ -8,7 +8,8 @@ use lib.ListN.{length, take, drop, drop-of-length-le}
 use Rattle.attribute.specs.Attribute.{parse}
 use Rattle.attribute.specs.Walk.{stepAt}
 use Rattle.attribute.specs.Scan.{scan, scanned}
-use Rattle.attribute.specs.ScanLaws.{found, Scanning, inside, on, decides}
+use Rattle.attribute.specs.Visits.{found}
+use Rattle.attribute.specs.ScanLaws.{Scanning, inside, on, decides}
 use Rattle.attribute.specs.declared.Walk.{Walk}
 use Rattle.attribute.specs.declared.Walk.the-variants.{Attribute}
 use Rattle.attribute.specs.declared.Scan.{Scan}

@@ -1,7 +1,8 @@
 -- The contract of the public call determines its answer.
 use Prim.Native.Nat.{ℕ}
 use mathlib.Core.List.{List}
-use Rattle.base.specs.Determined.{Determines, by}
+use Rattle.base.specs.DeterminedLaws.{by}
+use Rattle.base.specs.Determined.{Determines}
 use Rattle.crc.specs.Crc.{bytesFrom}
 use Rattle.folds.proofs.by_words.Kinds as by-words
 use Rattle.folds.proofs.by_words.Reads as by-words-reads

@@ -7,7 +7,7 @@ use native.Mathlib.Omega.{arith}
 use lib.ListN.{length, getD, take, drop, drop-of-length-le, length-take, length-drop, take-append-drop}
 use lib.Seq.{drop-cons, drop-drop, take-all}
 use lib.Bits.{bitXor}
-use Rattle.base.specs.Bytes.{bytes, take-bytes, drop-bytes}
+use Rattle.base.specs.BytesLaws.{bytes, take-bytes, drop-bytes}
 use Rattle.crc.specs.Crc.{bytesFrom}
 use Rattle.crc.specs.Octets.{octets, word}
 use Rattle.crc.specs.CrcLaws.{bytesFrom-append, at-once, word-lt}

@@ -1,7 +1,8 @@
 -- The contract of each public call determines its answer.
 use Prim.Native.Nat.{ℕ}
 use mathlib.Core.List.{List}
-use Rattle.base.specs.Determined.{Determines, by}
+use Rattle.base.specs.DeterminedLaws.{by}
+use Rattle.base.specs.Determined.{Determines}
 use Rattle.header.specs.Header.{frontOf, headerOf}
 use Rattle.header.specs.SaidLaws.{header-one}
 use Rattle.header.specs.declared.Header.{Header}

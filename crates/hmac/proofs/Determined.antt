@@ -2,7 +2,8 @@
 use Prim.Native.Nat.{ℕ}
 use mathlib.Core.List.{List}
 use lib.ListN.{take}
-use Rattle.base.specs.Determined.{Determines, by}
+use Rattle.base.specs.DeterminedLaws.{by}
+use Rattle.base.specs.Determined.{Determines}
 use Rattle.numbers.specs.Numbers.{withLength}
 use Rattle.hmac.specs.Hmac.{hmacOf}
 use Rattle.hmac.proofs.hmac.Kinds as hmac

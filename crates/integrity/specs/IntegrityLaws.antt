@@ -10,7 +10,8 @@ use Rattle.rfc5389.specs.declared.Row.{Row}
 use Rattle.message.specs.Reading.{readingSaid, readingOf}
 use Rattle.value.specs.First.{Place, none, starts, firstIn, isWhole}
 use Rattle.value.specs.WholeLaws.{number-whole}
-use Rattle.base.specs.Same.{same, same-eq, same-refl}
+use Rattle.base.specs.SameLaws.{same-eq, same-refl}
+use Rattle.base.specs.Same.{same}
 use Rattle.integrity.specs.Integrity.{integrityAt, comparedAt, compared, integrityFault}
 
 pub record Signed (rows : List Row) (d key : List ℕ) : Type 0 where

@@ -1,7 +1,8 @@
 -- The contract of the reader determines what it answers.
 use Prim.Native.Nat.{ℕ}
 use mathlib.Core.List.{List}
-use Rattle.base.specs.Determined.{Determines, by}
+use Rattle.base.specs.DeterminedLaws.{by}
+use Rattle.base.specs.Determined.{Determines}
 use Rattle.rfc5389.specs.Rows.{rfc5389}
 use Rattle.message.specs.Reading.{readingOf}
 use Rattle.message.specs.SaidLaws.{reading-one}

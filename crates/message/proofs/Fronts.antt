@@ -9,7 +9,8 @@ use lib.Dec.{eqb}
 use Rattle.base.specs.Choice.{pick}
 use Rattle.attribute.specs.Walk.{stepAt}
 use Rattle.attribute.specs.WalkLaws.{ahead, seen}
-use Rattle.attribute.specs.ScanLaws.{found, Scanning, turn}
+use Rattle.attribute.specs.Visits.{found}
+use Rattle.attribute.specs.ScanLaws.{Scanning, turn}
 use Rattle.attribute.specs.declared.Scan.{Scan}
 use Rattle.attribute.specs.declared.Walk.{Walk}
 use Rattle.attribute.specs.declared.Walk.the-variants.{Attribute}

@@ -5,7 +5,8 @@ use mathlib.Core.Path.{_≡_, ap, _∙_}
 use native.Mathlib.Omega.{arith}
 use lib.ListN.{take, drop}
 use Rattle.attribute.specs.Walk.{stepAt}
-use Rattle.attribute.specs.ScanLaws.{found, Scanning, on, decides}
+use Rattle.attribute.specs.Visits.{found}
+use Rattle.attribute.specs.ScanLaws.{Scanning, on, decides}
 use Rattle.attribute.specs.declared.Walk.{Walk}
 use Rattle.attribute.specs.declared.Walk.the-variants.{Attribute}
 use Rattle.attribute.specs.declared.Scan.{Scan}

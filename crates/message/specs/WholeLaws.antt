@@ -12,8 +12,8 @@ use Rattle.wire.specs.declared.method.Method.{Method}
 use Rattle.wire.specs.declared.types.MessageClass.{MessageClass}
 use Rattle.header.specs.Header.{headerFault, idOf}
 use Rattle.attribute.specs.Attribute.{Body, rest, parse}
-use Rattle.attribute.specs.Scan.{scan, scanned}
-use Rattle.attribute.specs.PassLaws.{Pass, AllPass, passed-all, all-passed, fault-some}
+use Rattle.attribute.specs.Scan.{scan, scanned, Pass}
+use Rattle.attribute.specs.PassLaws.{AllPass, passed-all, all-passed, fault-some}
 use Rattle.attribute.specs.declared.Scan.{Scan}
 use Rattle.attribute.specs.declared.Scan.the-variants.{Passed, Fault}
 use Rattle.rfc5389.specs.declared.Row.{Row}

@@ -1,6 +1,7 @@
 -- The contract of each public call determines its answer.
 use Prim.Native.Nat.{ℕ}
-use Rattle.base.specs.Determined.{Determines, by}
+use Rattle.base.specs.DeterminedLaws.{by}
+use Rattle.base.specs.Determined.{Determines}
 use Rattle.wire.specs.declared.method.Method.{Method}
 use Rattle.wire.specs.declared.types.MessageClass.{MessageClass}
 use Rattle.names.specs.Names.{attributeName, codeName, numberName, className, methodName}

@@ -1,7 +1,8 @@
 -- The contract of each public call determines its answer and each byte of a lent buffer.
 use Prim.Native.Nat.{ℕ}
 use mathlib.Core.List.{List}
-use Rattle.base.specs.Determined.{Determines, by}
+use Rattle.base.specs.DeterminedLaws.{by}
+use Rattle.base.specs.Determined.{Determines}
 use Rattle.wire.specs.declared.transaction_id.TransactionId.{TransactionId}
 use Rattle.net.specs.Net.{familyNumber, ipSize, xored, addrXor}
 use Rattle.net.specs.declared.Family.{Family}

@@ -1,7 +1,8 @@
 -- Addresses and their XOR form (RFC 5389 sections 15.1 and 15.2; docs/SCOPE.md, "Addresses").
 use Prim.Native.Nat.{ℕ}
 use mathlib.Core.List.{List, [], _∷_, _++_}
-use lib.ListN.{take}
+use mathlib.Core.Path.{_≡_}
+use lib.ListN.{length, take, drop, replicate}
 use lib.Bits.{bitXor}
 use Rattle.numbers.specs.Numbers.{two}
 use Rattle.constants.specs.Cookie.{cookie}
@@ -36,3 +37,8 @@ addrXor a id = record {
 -- the bytes of an address in a value: nought, the family, the port, as many IP bytes as the family has
 unfoldable pub addressValue : SocketAddr → List ℕ
 addressValue a = 0 ∷ familyNumber (a .family) ∷ two (a .port) ++ take (ipSize (a .family)) (a .ip)
+
+-- the IP stands in 16 bytes, with noughts behind it
+pub record Sound (a : SocketAddr) : Type 0 where
+  pub size : length (a .ip) ≡ 16
+  pub behind : drop (ipSize (a .family)) (a .ip) ≡ drop (ipSize (a .family)) (replicate 16 0)

@@ -1,7 +1,8 @@
 -- The contract of each public call determines its answer.
 use Prim.Native.Nat.{ℕ}
 use mathlib.Core.List.{List}
-use Rattle.base.specs.Determined.{Determines, by}
+use Rattle.base.specs.DeterminedLaws.{by}
+use Rattle.base.specs.Determined.{Determines}
 use Rattle.numbers.specs.Numbers.{be16, be32}
 use Rattle.numbers.proofs.u16_at.Kinds as u16-at
 use Rattle.numbers.proofs.u16_at.Reads as u16-at-reads

@@ -1,7 +1,8 @@
 -- The contract of `plan_for` determines its answer.
 use Prim.Native.Nat.{ℕ}
 use mathlib.Core.List.{List}
-use Rattle.base.specs.Determined.{Determines, by}
+use Rattle.base.specs.DeterminedLaws.{by}
+use Rattle.base.specs.Determined.{Determines}
 use Rattle.plan.specs.Plan.{planOf}
 use Rattle.plan.specs.SaidLaws.{plan-one}
 use Rattle.plan.specs.declared.Plan.{Plan}

@@ -1,7 +1,8 @@
 -- The contract of the public call determines what it answers.
 use Prim.Native.Nat.{ℕ}
 use mathlib.Core.List.{List}
-use Rattle.base.specs.Determined.{Determines, by}
+use Rattle.base.specs.DeterminedLaws.{by}
+use Rattle.base.specs.Determined.{Determines}
 use Rattle.unicode.specs.Points.{points}
 use Rattle.points.proofs.code_points.Kinds as count
 use Rattle.points.proofs.code_points.Reads as count-reads

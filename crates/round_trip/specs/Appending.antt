@@ -6,32 +6,26 @@ use mathlib.Core.Path.{_≡_, sym, ap, ap₂, _∙_, subst}
 use native.Mathlib.Omega.{arith}
 use lib.ListN.{length, take, drop, length-append, length-drop, take-append-drop}
 use lib.Seq.{take-at, length-take-le}
-use Rattle.base.specs.Bytes.{Bytes, take-bytes}
+use Rattle.base.specs.BytesLaws.{take-bytes}
+use Rattle.base.specs.Bytes.{Bytes}
 use Rattle.numbers.specs.Numbers.{be16}
 use Rattle.wire.specs.TypeNumber.{typeOf, classNumber}
 use Rattle.wire.specs.TypeLaws.{type-below, class-small}
 use Rattle.header.specs.HeaderLaws.{unrefused, take-be16, take-front}
 use Rattle.attribute.specs.Attribute.{padded, Attr, allBytes}
 use Rattle.attribute.specs.Attribute as one
-use Rattle.attribute.specs.RoundTrip.{Good}
-use Rattle.attribute.specs.CoverLaws.{Visits, placed, placed-one, visits, visits-one}
+use Rattle.attribute.specs.Good.{Good}
+use Rattle.attribute.specs.Visits.{Visits, placed}
+use Rattle.attribute.specs.CoverLaws.{placed-one, visits, visits-one}
 use Rattle.begin.specs.declared.Written.the-variants.{Total}
 use Rattle.plan.specs.Plan.{sizeOf}
 use Rattle.plan.specs.PlanLaws.{Going, message}
 use Rattle.plan.specs.PlanLaws as plan
 use Rattle.append.specs.Append.{answer, appended}
 use Rattle.append.specs.AppendLaws.{total-goes}
-use Rattle.round_trip.specs.Message.{Message, bytesOf, messageOf, Shaped, Sound}
+use Rattle.round_trip.specs.Message.{Message, bytesOf, messageOf, Shaped, Sound, with, held}
 use Rattle.round_trip.specs.FrontLaws.{head-length, front, all-one, goods-one, attr-length, step-buffer}
 use Rattle.round_trip.specs.Bijection.{bijection, read-written, header-again, covered-again}
-
--- a message with one attribute more
-abbrev pub with : Message → Attr → Message
-with m a = record { class = m .class; method = m .method; id = m .id; attributes = m .attributes ++ (a ∷ []) }
-
--- the message at the front of a buffer
-abbrev pub held : List ℕ → Message
-held d = messageOf (take (sizeOf d) d)
 
 module _ (d : List ℕ) (h : Bytes d) (mf : plan.Message d) where
   abbrev D : List ℕ

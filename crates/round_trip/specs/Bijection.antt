@@ -5,8 +5,9 @@ use mathlib.Core.Path.{_≡_, refl, sym, ap, ap₂, _∙_, subst}
 use native.Mathlib.Omega.{arith}
 use lib.ListN.{length, take, drop, length-append, length-take, length-drop, take-append-drop}
 use lib.Seq.{take-at, drop-drop}
-use Rattle.base.specs.Bytes.{Bytes, take-bytes, drop-bytes, append-bytes, byte-at}
-use Rattle.base.specs.Same.{same-eq}
+use Rattle.base.specs.BytesLaws.{take-bytes, drop-bytes, append-bytes, byte-at}
+use Rattle.base.specs.Bytes.{Bytes}
+use Rattle.base.specs.SameLaws.{same-eq}
 use Rattle.numbers.specs.Numbers.{be16}
 use Rattle.constants.specs.Cookie.{cookie, cookieAt}
 use Rattle.wire.specs.TypeNumber.{typeOf, classOf, methodOf, classNumber, classNumbered}
@@ -15,7 +16,8 @@ use Rattle.wire.specs.declared.types.MessageClass.{MessageClass}
 use Rattle.header.specs.Header.{headerFault, idOf}
 use Rattle.header.specs.HeaderLaws.{Checked, checked, unrefused}
 use Rattle.attribute.specs.Attribute.{padded, Attr, attrs, rest, parse, allBytes}
-use Rattle.attribute.specs.RoundTrip.{Goods, goods-read, decode-allBytes, allBytes-decode}
+use Rattle.attribute.specs.Good.{Goods}
+use Rattle.attribute.specs.RoundTrip.{goods-read, decode-allBytes, allBytes-decode}
 use Rattle.begin.specs.Begin.{headBytes}
 use Rattle.round_trip.specs.Message.{Message, bytesOf, messageOf, Octets, Shaped, Writable, Sound}
 use Rattle.round_trip.specs.FrontLaws.{head-length, head-size, head-type, head-fault, head-body}

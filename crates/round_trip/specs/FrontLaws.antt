@@ -9,12 +9,14 @@ use lib.ListN.{length, take, drop, length-append}
 use lib.Seq.{take-at, drop-at, drop-append-add}
 use Rattle.base.specs.Choice.{pick}
 use Rattle.base.specs.Same.{same}
-use Rattle.base.specs.Laid.{laid, laid-is}
+use Rattle.base.specs.LaidLaws.{laid-is}
+use Rattle.base.specs.Laid.{laid}
 use Rattle.numbers.specs.Numbers.{be16, two}
 use Rattle.constants.specs.Cookie.{cookieAt}
 use Rattle.header.specs.Header.{frontFault}
 use Rattle.attribute.specs.Attribute.{padded, Attr, rest, parse, bytesOf, allBytes}
-use Rattle.attribute.specs.RoundTrip.{Good, Goods, decode-allBytes}
+use Rattle.attribute.specs.Good.{Good, Goods}
+use Rattle.attribute.specs.RoundTrip.{decode-allBytes}
 use Rattle.begin.specs.Begin.{headBytes}
 use Rattle.begin.specs.declared.Written.the-variants.{Total}
 use Rattle.plan.specs.Plan.{sizeOf, messageFault, bodyWith}

@@ -2,7 +2,7 @@
 use Prim.Native.Nat.{ℕ, _≤_, _<_}
 use mathlib.Core.List.{List, [], _∷_, _++_}
 use mathlib.Core.Path.{_≡_}
-use lib.ListN.{length, drop}
+use lib.ListN.{length, take, drop}
 use Rattle.base.specs.Bytes.{Bytes}
 use Rattle.numbers.specs.Numbers.{be16}
 use Rattle.wire.specs.TypeNumber.{typeOf, classOf, methodOf, classNumber, classNumbered}
@@ -11,7 +11,14 @@ use Rattle.wire.specs.declared.transaction_id.TransactionId.{TransactionId}
 use Rattle.wire.specs.declared.types.MessageClass.{MessageClass}
 use Rattle.header.specs.Header.{headerFault, idOf}
 use Rattle.attribute.specs.Attribute.{Attr, attrs, rest, parse, allBytes}
-use Rattle.attribute.specs.RoundTrip.{Goods}
+use Rattle.attribute.specs.Good.{Goods}
+use Rattle.attribute.specs.Scan.{Pass}
+use Rattle.rfc5389.specs.declared.Row.{Row}
+use Rattle.fingerprints.specs.Fingerprints.{printFaults}
+use Rattle.message.specs.Reading.{valueFaults}
+use Rattle.message.specs.declared.Answer.the-variants.{Whole}
+use Rattle.message.specs.declared.Reading.{Reading}
+use Rattle.plan.specs.Plan.{sizeOf}
 use Rattle.begin.specs.Begin.{headBytes, begun, beginning}
 use Rattle.begin.specs.declared.Written.{Written}
 use Rattle.append.specs.Append.{answer, appended}
@@ -73,3 +80,21 @@ write d m = writeFrom (beginning d (m .class) (m .method) (m .id)) (m .attribute
 
 abbrev pub said : List ℕ → Message → Written
 said d m = saidFrom (begun d (m .method)) (beginning d (m .class) (m .method) (m .id)) (m .attributes)
+
+-- a message with one attribute more
+abbrev pub with : Message → Attr → Message
+with m a = record { class = m .class; method = m .method; id = m .id; attributes = m .attributes ++ (a ∷ []) }
+
+-- the message at the front of a buffer
+abbrev pub held : List ℕ → Message
+held d = messageOf (take (sizeOf d) d)
+
+-- a message within the rules whose values and FINGERPRINTs pass, under a list of types
+pub record Right (rows : List Row) (m : Message) : Type 0 where
+  pub shape : Shaped m
+  pub values : Pass (valueFaults rows) 20 (m .attributes)
+  pub prints : Pass (printFaults (bytesOf m)) 20 (m .attributes)
+
+-- what its reading is: whole, with its class, method, ID and number of attributes
+abbrev pub wholeWith : Message → Reading
+wholeWith m = record { answer = Whole (m .class) (m .method) (length (m .attributes)); id = m .id }

@@ -12,7 +12,8 @@ use lib.Bits.{bitXor}
 use lib.Dec.{eqb}
 use Rattle.base.specs.Choice.{pick}
 use Rattle.base.specs.Bytes.{Bytes}
-use Rattle.base.specs.Same.{same, same-refl}
+use Rattle.base.specs.SameLaws.{same-refl}
+use Rattle.base.specs.Same.{same}
 use Rattle.base.specs.Laid.{laid}
 use Rattle.numbers.specs.Numbers.{be16, two, four, withLength}
 use Rattle.wire.specs.TypeNumber.{typeOf, classOf, methodOf, classNumber, classNumbered}
@@ -22,7 +23,8 @@ use Rattle.header.specs.Header.{headerFault}
 use Rattle.attribute.specs.Attribute.{Attr, Body, stop, more, parse, allBytes}
 use Rattle.attribute.specs.Attribute as one
 use Rattle.attribute.specs.BodyLaws.{parse-none}
-use Rattle.attribute.specs.RoundTrip.{Goods, before}
+use Rattle.attribute.specs.Good.{Goods}
+use Rattle.attribute.specs.RoundTrip.{before}
 use Rattle.attribute.specs.RoundTrip as attributes
 use Rattle.attribute.specs.Scan.{scan, scanned}
 use Rattle.attribute.specs.declared.Scan.{Scan}
@@ -46,11 +48,11 @@ use Rattle.append.specs.Append.{answer, appended}
 use Rattle.append.specs.AppendLaws.{total-goes}
 use Rattle.integrity.specs.Integrity.{integrityAt}
 use Rattle.seal.specs.Seal.{fingerprint, integrity}
-use Rattle.round_trip.specs.Message.{Message, bytesOf, messageOf, Shaped}
+use Rattle.round_trip.specs.Message.{Message, bytesOf, messageOf, Shaped, with, held}
 use Rattle.round_trip.specs.FrontLaws.{head-length, head-again, all-append}
 use Rattle.round_trip.specs.Bijection.{header-again, body-again, t-again}
 use Rattle.round_trip.specs.Whole.{Passes, passes, passes-whole}
-use Rattle.round_trip.specs.Appending.{with, held, held-shaped, held-bytes, held-length, with-shaped, appended-bytes, appended-message}
+use Rattle.round_trip.specs.Appending.{held-shaped, held-bytes, held-length, with-shaped, appended-bytes, appended-message}
 
 -- the attributes of a message's bytes, as one body
 body-is : (m : Message) → Shaped m → parse 0 (drop 20 (bytesOf m)) ≡ before (m .attributes) (stop [])

@@ -16,10 +16,9 @@ use Rattle.wire.specs.TypeNumber.{classOf, methodOf, classNumbered}
 use Rattle.header.specs.Header.{headerFault, idOf}
 use Rattle.attribute.specs.Attribute.{Attr, Body, stop, more, rest, parse}
 use Rattle.attribute.specs.Attribute as one
-use Rattle.attribute.specs.Scan.{scan, scanned}
+use Rattle.attribute.specs.Scan.{scan, scanned, Pass}
 use Rattle.attribute.specs.declared.Scan.{Scan}
 use Rattle.attribute.specs.declared.Scan.the-variants.{Passed, Fault}
-use Rattle.attribute.specs.PassLaws.{Pass}
 use Rattle.rfc5389.specs.declared.Row.{Row}
 use Rattle.fingerprints.specs.Fingerprints.{printFaults}
 use Rattle.message.specs.Reading.{valueFaults, andThen, outcome, answered, readingOf}
@@ -27,7 +26,7 @@ use Rattle.message.specs.Whole.{attributes}
 use Rattle.message.specs.WholeLaws.{parts-told}
 use Rattle.message.specs.declared.Answer.the-variants.{Whole, Refused}
 use Rattle.message.specs.declared.Reading.{Reading}
-use Rattle.round_trip.specs.Message.{Message, bytesOf, messageOf, Shaped, Writable, Sound, write}
+use Rattle.round_trip.specs.Message.{Message, bytesOf, messageOf, Shaped, Writable, Sound, write, Right, wholeWith}
 use Rattle.round_trip.specs.Bijection.{bijection, read-written, header-again, covered-again}
 use Rattle.round_trip.specs.WriteAgain.{front-written}
 
@@ -98,16 +97,6 @@ module _ (rows : List Row) (d : List ℕ) {c : MessageClass} {m : Method} {n : �
 -- MESSAGE BACK: a message within the rules, written into a buffer with room for it, is that message again
 pub message-back : (b : List ℕ) (m : Message) → Shaped m → length (bytesOf m) ≤ length b → messageOf (take (length (bytesOf m)) (write b m)) ≡ m
 message-back b m w room = ap messageOf (front-written b m w room) ∙ read-written m w
-
--- a message within the rules whose values and FINGERPRINTs pass, under a list of types
-pub record Right (rows : List Row) (m : Message) : Type 0 where
-  pub shape : Shaped m
-  pub values : Pass (valueFaults rows) 20 (m .attributes)
-  pub prints : Pass (printFaults (bytesOf m)) 20 (m .attributes)
-
--- what its reading is: whole, with its class, method, ID and number of attributes
-abbrev pub wholeWith : Message → Reading
-wholeWith m = record { answer = Whole (m .class) (m .method) (length (m .attributes)); id = m .id }
 
 pub right-read : (rows : List Row) (m : Message) → Right rows m → readingOf rows (bytesOf m) ≡ wholeWith m
 unfolding messageOf

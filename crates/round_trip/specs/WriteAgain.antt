@@ -6,12 +6,12 @@ use native.Mathlib.Omega.{arith}
 use borrow.Author.Tests.{lt-ltb, le-ltb}
 use lib.ListN.{length, take, drop, length-append, length-drop}
 use lib.Seq.{drop-drop, take-at}
-use Rattle.base.specs.Laid.{laid-is}
+use Rattle.base.specs.LaidLaws.{laid-is}
 use Rattle.wire.specs.TypeNumber.{typeOf, classNumber}
 use Rattle.wire.specs.TypeLaws.{type-below, class-small}
 use Rattle.attribute.specs.Attribute.{Attr, allBytes}
 use Rattle.attribute.specs.Attribute as one
-use Rattle.attribute.specs.RoundTrip.{Goods}
+use Rattle.attribute.specs.Good.{Goods}
 use Rattle.begin.specs.Begin.{headBytes, beginFault, begun, beginning}
 use Rattle.begin.specs.declared.Written.{Written}
 use Rattle.begin.specs.declared.Written.the-variants.{Total}

@@ -1,7 +1,8 @@
 -- The contract of the public call determines its result.
 use Prim.Native.Nat.{ℕ}
 use mathlib.Core.List.{List}
-use Rattle.base.specs.Determined.{Determines, by}
+use Rattle.base.specs.DeterminedLaws.{by}
+use Rattle.base.specs.Determined.{Determines}
 use Rattle.sha1.specs.Sha1.{sha1}
 use Rattle.sha1.proofs.hash.Kinds as hash
 use Rattle.sha1.proofs.hash.Reads as hash-reads

@@ -2,7 +2,8 @@
 use Prim.Native.Nat.{ℕ}
 use mathlib.Core.List.{List}
 use mathlib.Core.Path.{ap₂}
-use Rattle.base.specs.Determined.{Determines, by}
+use Rattle.base.specs.DeterminedLaws.{by}
+use Rattle.base.specs.Determined.{Determines}
 use Rattle.text.specs.Hex.{hexOf, read, shown, showing}
 use Rattle.text.specs.declared.Hex.{Hex}
 use Rattle.text.specs.SaidLaws.{hex-one}

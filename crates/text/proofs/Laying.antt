@@ -6,7 +6,7 @@ use native.Mathlib.Omega.{arith}
 use native.Mathlib.Nat.{min-le-left, min-le-right, min-comm}
 use lib.ListN.{length, getD, set, take, length-take}
 use lib.Seq.{getD-take}
-use Rattle.base.specs.Laid.{Laying, laying-start, laying-turn, laying-done}
+use Rattle.base.specs.LaidLaws.{Laying, laying-start, laying-turn, laying-done}
 use Rattle.digits.specs.Digit.{digitOf, firstBad}
 use Rattle.text.specs.Hex.{glyphOf, spelt, digits, unhexed, shown, showing}
 use Rattle.text.specs.HexLaws.{length-spelt, spelt-at, length-digits, high-at, low-at}

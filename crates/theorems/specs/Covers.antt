@@ -5,13 +5,15 @@ use mathlib.Core.List.{List}
 use mathlib.Core.Path.{_≡_, ap}
 use native.Mathlib.Omega.{arith}
 use lib.ListN.{length, drop, length-drop}
-use Rattle.base.specs.Bytes.{Bytes, byte-at}
+use Rattle.base.specs.BytesLaws.{byte-at}
+use Rattle.base.specs.Bytes.{Bytes}
 use Rattle.numbers.specs.Numbers.{be16}
 use Rattle.wire.specs.declared.method.Method.{Method}
 use Rattle.wire.specs.declared.types.MessageClass.{MessageClass}
 use Rattle.header.specs.HeaderLaws.{sized}
 use Rattle.attribute.specs.Attribute.{Attr, rest, parse}
-use Rattle.attribute.specs.CoverLaws.{sizes, sizes-rest, sizes-least, Visits, placed, visits, visits-one}
+use Rattle.attribute.specs.Visits.{sizes, Visits, placed}
+use Rattle.attribute.specs.CoverLaws.{sizes-rest, sizes-least, visits, visits-one}
 use Rattle.rfc5389.specs.declared.Row.{Row}
 use Rattle.message.specs.Reading.{readingOf}
 use Rattle.message.specs.Whole.{Whole, attributes}

@@ -18,11 +18,11 @@ use lib.Dec.{ltb}
 use Rattle.base.specs.Choice.{pick}
 use Rattle.base.specs.Bytes.{Bytes}
 use Rattle.wire.specs.declared.transaction_id.TransactionId.{TransactionId}
-use Rattle.net.specs.Net.{addressValue}
+use Rattle.net.specs.Net.{addressValue, Sound}
 use Rattle.net.specs.declared.SocketAddr.{SocketAddr}
 use Rattle.header.specs.Header.{frontOf}
 use Rattle.attribute.specs.Attribute.{Attr}
-use Rattle.attribute.specs.CoverLaws.{Visits}
+use Rattle.attribute.specs.Visits.{Visits}
 use Rattle.rfc5389.specs.Rows.{rfc5389}
 use Rattle.rfc5389.specs.Fault.{ruleOf, fault}
 use Rattle.rfc5389.specs.declared.Row.{Row}
@@ -34,7 +34,7 @@ use Rattle.message.specs.WholeLaws.{told}
 use Rattle.message.specs.declared.Reading.{Reading}
 use Rattle.typed.specs.Typed.{codeOf, without, saidBy, readOf, typedOf, partBy, partOf}
 use Rattle.typed.specs.TypedLaws.{fields, part}
-use Rattle.typed.specs.Written.{Sound, mapped-back, alternate-back, xor-back}
+use Rattle.typed.specs.Written.{mapped-back, alternate-back, xor-back}
 use Rattle.typed.specs.declared.Value.the-variants.{Code, Plain}
 use Rattle.begin.specs.declared.Written.the-variants.{Total}
 use Rattle.plan.specs.Plan.{sizeOf}
@@ -50,9 +50,8 @@ use Rattle.addresses.specs.declared.AddressKind.{AddressKind}
 use Rattle.addresses.specs.declared.AddressKind.the-variants.{MappedAddress, XorMappedAddress, AlternateServer}
 use Rattle.error_codes.specs.ErrorCode.{codeValue, codeRefusal}
 use Rattle.error_codes.specs.ErrorCodeLaws.{code-right}
-use Rattle.round_trip.specs.Message.{Message, bytesOf, messageOf, Shaped, write}
+use Rattle.round_trip.specs.Message.{Message, bytesOf, messageOf, Shaped, write, Right, wholeWith}
 use Rattle.round_trip.specs.Whole as whole
-use Rattle.round_trip.specs.Whole.{Right, wholeWith}
 use Rattle.round_trip.specs.Appending as append
 
 -- a whole datagram, written again by begin and a raw append for each of its attributes, is the same bytes, in any buffer with room for it

@@ -4,7 +4,7 @@ use mathlib.Core.List.{List, [], _∷_, _++_}
 use mathlib.Core.Path.{_≡_, refl, ap}
 use native.Mathlib.Omega.{arith}
 use lib.ListN.{length, getD, take, drop}
-use Rattle.base.specs.Bytes.{tested}
+use Rattle.base.specs.BytesLaws.{tested}
 use Rattle.base.specs.Same.{same}
 use Rattle.numbers.specs.Numbers.{be16, withLength}
 use Rattle.constants.specs.Cookie.{cookieAt}
@@ -18,7 +18,7 @@ use Rattle.rfc5389.specs.Fault.{ruleOf, ruleFault, sizeFault, fault}
 use Rattle.fingerprints.specs.Fingerprints.{printFault, printFaults}
 use Rattle.message.specs.Reading.{answerSaid, readingSaid, valueFaults, outcome, readingOf}
 use Rattle.message.specs.Whole.{Whole, attributes}
-use Rattle.theorems.specs.Stretch.{Ends}
+use Rattle.theorems.specs.Ends.{Ends}
 
 -- a Binding request with an unknown attribute of eight bytes and a FINGERPRINT
 abbrev pub holding : List ℕ → List ℕ

@@ -4,6 +4,7 @@ pub mod Covers
 pub mod Served
 pub mod Demand2
 pub mod Signed
+pub mod Ends
 pub mod Stretch
 pub mod Sealing
 pub mod Five

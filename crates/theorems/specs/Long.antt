@@ -8,7 +8,8 @@ use borrow.Author.Tests.{ne-eqb, le-ltb}
 use lib.ListN.{length, take, drop, length-take}
 use lib.Seq.{getD-take, take-take, length-take-le}
 use lib.Dec.{eqb, ltb}
-use Rattle.base.specs.Bytes.{Bytes, byte-at}
+use Rattle.base.specs.BytesLaws.{byte-at}
+use Rattle.base.specs.Bytes.{Bytes}
 use Rattle.base.specs.Lists.{drop-take}
 use Rattle.numbers.specs.Numbers.{be16}
 use Rattle.constants.specs.Cookie.{cookieAt}

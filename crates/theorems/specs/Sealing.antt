@@ -5,7 +5,8 @@ use mathlib.Core.Path.{_≡_, refl, sym, ap, subst}
 use native.Mathlib.Omega.{arith}
 use lib.ListN.{take}
 use lib.Bits.{bitXor, xor-lt}
-use Rattle.base.specs.Bytes.{Bytes, take-bytes}
+use Rattle.base.specs.BytesLaws.{take-bytes}
+use Rattle.base.specs.Bytes.{Bytes}
 use Rattle.numbers.specs.Numbers.{four, withLength}
 use Rattle.crc.specs.Crc.{bitSteps, byteStep, bytesFrom, crc32Of}
 use Rattle.crc.specs.Octets.{octets}
@@ -24,11 +25,11 @@ use Rattle.plan.specs.PlanLaws as plan
 use Rattle.append.specs.Append.{answer, appended}
 use Rattle.append.specs.AppendLaws.{total-goes}
 use Rattle.seal.specs.Seal.{fingerprint}
-use Rattle.round_trip.specs.Message.{Message, bytesOf, messageOf, Octets, Writable}
+use Rattle.round_trip.specs.Message.{Message, bytesOf, messageOf, Octets, Writable, with, held}
 use Rattle.round_trip.specs.Bijection.{bijection}
-use Rattle.round_trip.specs.Appending.{with, held, held-sound, with-shaped, appended-bytes, appended-message}
+use Rattle.round_trip.specs.Appending.{held-sound, with-shaped, appended-bytes, appended-message}
 use Rattle.round_trip.specs.Sealed.{sealed}
-use Rattle.theorems.specs.Stretch.{Ends}
+use Rattle.theorems.specs.Ends.{Ends}
 
 -- a register stays within 32 bits, and so does the sum
 register-lt : (s : ℕ) (bs : List ℕ) → s < 2 ^ 32 → Bytes bs → bytesFrom s bs < 2 ^ 32

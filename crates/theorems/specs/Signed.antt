@@ -26,8 +26,8 @@ use Rattle.append.specs.AppendLaws.{total-goes}
 use Rattle.integrity.specs.Integrity.{integrityFault}
 use Rattle.integrity.specs.IntegrityLaws.{signed-0}
 use Rattle.seal.specs.Seal.{integrity}
-use Rattle.round_trip.specs.Message.{Message, messageOf}
-use Rattle.round_trip.specs.Appending.{held, held-length, appended-message}
+use Rattle.round_trip.specs.Message.{Message, messageOf, held}
+use Rattle.round_trip.specs.Appending.{held-length, appended-message}
 use Rattle.round_trip.specs.Sealed.{low, signed, signed-whole}
 
 -- behind attributes with none of a type, one of it is the first

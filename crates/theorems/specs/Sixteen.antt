@@ -10,7 +10,8 @@ use borrow.Author.Tests.{eqb-true, ltb-true, ltb-false}
 use lib.ListN.{length, getD, drop, length-append, length-drop}
 use lib.Dec.{eqb, ltb, leb}
 use Rattle.base.specs.Choice.{pick}
-use Rattle.base.specs.Bytes.{Bytes, byte-at, drop-bytes}
+use Rattle.base.specs.BytesLaws.{byte-at, drop-bytes}
+use Rattle.base.specs.Bytes.{Bytes}
 use Rattle.base.specs.Same.{same}
 use Rattle.numbers.specs.Numbers.{be16, four}
 use Rattle.constants.specs.Cookie.{cookieAt}
@@ -20,10 +21,10 @@ use Rattle.header.specs.Header.{frontFault, headerFault}
 use Rattle.header.specs.HeaderLaws.{sized}
 use Rattle.attribute.specs.Attribute.{Attr, Body, stop, more, attrs, rest, parse, bytesOf, allBytes}
 use Rattle.attribute.specs.RoundTrip.{write-read}
-use Rattle.attribute.specs.Scan.{scan, scanned}
+use Rattle.attribute.specs.Scan.{scan, scanned, Pass}
 use Rattle.attribute.specs.declared.Scan.{Scan}
 use Rattle.attribute.specs.declared.Scan.the-variants.{Passed, Fault}
-use Rattle.attribute.specs.PassLaws.{Pass, passed-all}
+use Rattle.attribute.specs.PassLaws.{passed-all}
 use Rattle.unicode.specs.Utf8.{isUtf8}
 use Rattle.fingerprint.specs.Fingerprint.{fingerprintAt}
 use Rattle.rfc5389.specs.Rows.{look, rfc5389}

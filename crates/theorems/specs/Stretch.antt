@@ -11,20 +11,24 @@ use lib.ListN.{length, getD, take, drop, length-append, length-drop}
 use lib.Seq.{drop-drop, drop-append-seam}
 use lib.Dec.{eqb, ltb}
 use Rattle.base.specs.Choice.{pick}
-use Rattle.base.specs.Bytes.{Bytes, drop-bytes}
-use Rattle.base.specs.Same.{same, same-eq}
+use Rattle.base.specs.BytesLaws.{drop-bytes}
+use Rattle.base.specs.Bytes.{Bytes}
+use Rattle.base.specs.SameLaws.{same-eq}
+use Rattle.base.specs.Same.{same}
 use Rattle.numbers.specs.Numbers.{be16, four}
 use Rattle.header.specs.Header.{headerFault}
 use Rattle.header.specs.HeaderLaws.{long, sized}
 use Rattle.attribute.specs.Attribute.{padded, Attr, Body, stop, more, attrs, rest, parse, bytesOf, allBytes}
-use Rattle.attribute.specs.RoundTrip.{Good, Goods, goods-read, write-read}
+use Rattle.attribute.specs.Good.{Good, Goods}
+use Rattle.attribute.specs.RoundTrip.{goods-read, write-read}
 use Rattle.fingerprint.specs.Fingerprint.{fingerprintAt}
 use Rattle.fingerprint.specs.StretchLaws.{Sealed, stretch-sealed}
 use Rattle.rfc5389.specs.declared.Row.{Row}
-use Rattle.attribute.specs.PassLaws.{Pass}
+use Rattle.attribute.specs.Scan.{Pass}
 use Rattle.fingerprints.specs.Fingerprints.{printFault, printFaults}
 use Rattle.message.specs.Whole.{Whole, attributes}
 use Rattle.message.specs.WholeLaws.{parts}
+use Rattle.theorems.specs.Ends.{Ends}
 
 -- the last of attributes that pass
 pass-last : (f : ℕ → Attr → ℕ) (p : ℕ) (ys : List Attr) (a : Attr) → Pass f p (ys ++ (a ∷ [])) → f (p + length (allBytes ys)) a ≡ 0
@@ -100,15 +104,6 @@ module _ (rows : List Row) (d : List ℕ) (h : Bytes d) (w : Whole rows d) (ys :
             sym (drop-drop (length (allBytes ys)) 20 d) ∙ ap (drop (length (allBytes ys))) (sym body)
             ∙ drop-append-seam (allBytes ys) (bytesOf a) ∙ bytes;
       }
-
--- d is whole, and its last attribute is a FINGERPRINT
-pub record Ends (rows : List Row) (d : List ℕ) : Type 0 where
-  pub bytes : Bytes d
-  pub whole : Whole rows d
-  pub before : List Attr
-  pub print : Attr
-  pub last : attributes d ≡ before ++ (print ∷ [])
-  pub kind : print .kind ≡ 0x8028
 
 ending : {rows : List Row} {d : List ℕ} (x : Ends rows d) → Sealed d (20 + length (allBytes (x .before)))
 ending {rows} {d} x = sealed rows d (x .bytes) (x .whole) (x .before) (x .print) (x .last) (x .kind)

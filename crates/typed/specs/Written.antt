@@ -6,12 +6,12 @@ use mathlib.Core.Path.{_≡_, refl, sym, ap, _∙_}
 use native.Mathlib.Omega.{arith}
 use borrow.Author.Tests.{le-leb}
 use lib.ListN.{length, getD, take, drop, replicate, length-take, take-append-drop, drop-of-length-le}
-use Rattle.base.specs.Laid.{laid-is}
+use Rattle.base.specs.LaidLaws.{laid-is}
 use Rattle.numbers.specs.Numbers.{be16, two}
 use Rattle.buffers.specs.Put.{fitsAt, put}
 use Rattle.constants.specs.Cookie.{cookie}
 use Rattle.wire.specs.declared.transaction_id.TransactionId.{TransactionId}
-use Rattle.net.specs.Net.{familyNumber, ipSize, xored, addrXor, addressValue}
+use Rattle.net.specs.Net.{familyNumber, ipSize, xored, addrXor, addressValue, Sound}
 use Rattle.net.specs.NetLaws.{length-xored, addr-twice}
 use Rattle.net.specs.declared.Family.{Family}
 use Rattle.net.specs.declared.Family.the-variants.{Ipv4, Ipv6}
@@ -23,11 +23,6 @@ use Rattle.rfc5389.specs.declared.Rule.the-variants.{Address}
 use Rattle.rfc5389.specs.declared.Sizes.the-variants.{Between}
 use Rattle.typed.specs.Typed.{familyNumbered, ipOf, addressOf, saidBy, plainOf, readOf, typedOf}
 use Rattle.typed.specs.TypedLaws.{fields}
-
--- the IP stands in 16 bytes, with noughts behind it
-pub record Sound (a : SocketAddr) : Type 0 where
-  pub size : length (a .ip) ≡ 16
-  pub behind : drop (ipSize (a .family)) (a .ip) ≡ drop (ipSize (a .family)) (replicate 16 0)
 
 same-family : (f : Family) → familyNumbered (familyNumber f) ≡ f
 same-family Ipv4 = refl

@@ -2,7 +2,8 @@
 use Prim.Native.Nat.{ℕ}
 use mathlib.Core.List.{List}
 use mathlib.Core.Bool.{Bool}
-use Rattle.base.specs.Determined.{Determines, by}
+use Rattle.base.specs.DeterminedLaws.{by}
+use Rattle.base.specs.Determined.{Determines}
 use Rattle.unicode.specs.Utf8.{isUtf8}
 use Rattle.utf8.proofs.is_utf8.Kinds as check
 use Rattle.utf8.proofs.is_utf8.Reads as check-reads

@@ -9,7 +9,8 @@ use Rattle.attribute.specs.Attribute.{Body, attrs, parse}
 use Rattle.attribute.specs.Walk.{stepAt}
 use Rattle.attribute.specs.WalkLaws.{Ahead, ahead, Stops, seen}
 use Rattle.attribute.specs.BodyLaws.{body-seen, stopped}
-use Rattle.attribute.specs.ScanLaws as scanning
+use Rattle.attribute.specs.Visits as visits
+use Rattle.attribute.specs.ScanLaws.{found-length}
 use Rattle.attribute.specs.declared.Walk.{Walk}
 use Rattle.attribute.specs.declared.Walk.the-variants.{Attribute}
 use Rattle.value.specs.declared.First.the-variants.{Found, Absent}
@@ -32,21 +33,21 @@ module _ {d : List ℕ} {k at q j v n x : ℕ} {w : Walk} (g : Searching d k at)
   pub less : length d - x < length d - at
   less = omega (arith, inside)
 
-  here : from d k at ≡ firstFrom k at (scanning.found d j v n x ∷ attrs (parse 0 (drop x d)))
+  here : from d k at ≡ firstFrom k at (visits.found d j v n x ∷ attrs (parse 0 (drop x d)))
   here = ap (λ (y : Body). firstFrom k at (attrs y)) (body-seen d at (sym f ∙ e))
 
   pub turn : (j ≡ k → ⊥) → Searching d k x
   unfolding firstFrom
   turn ne = record {
     same =
-        ap (λ (y : ℕ). firstFrom k y (attrs (parse 0 (drop x d)))) (sym (scanning.found-length j inside)) ∙ sym (here ∙ simp (ne-eqb j k ne)) ∙ g .same;
+        ap (λ (y : ℕ). firstFrom k y (attrs (parse 0 (drop x d)))) (sym (found-length j inside)) ∙ sym (here ∙ simp (ne-eqb j k ne)) ∙ g .same;
   }
 
   pub found : j ≡ k → Found at n ≡ placed (firstIn k d)
   unfolding firstFrom placed
   found i =
       let s : length (take n (drop v d)) ≡ n = simp (length-take, length-drop) (omega (arith, inside)) in
-      let t : from d k at ≡ starts at (scanning.found d j v n x) = here ∙ simp (eq-eqb j k i) in
+      let t : from d k at ≡ starts at (visits.found d j v n x) = here ∙ simp (eq-eqb j k i) in
       ap (λ (m : ℕ). Found at m) (sym s) ∙ ap placed (sym t ∙ g .same)
 
 -- the step is no attribute

@@ -11,7 +11,8 @@ use Rattle.base.specs.Choice.{pick}
 use Rattle.attribute.specs.Attribute.{Attr, Body, stop, more, attrs, bytesOf, parse}
 use Rattle.attribute.specs.WalkLaws.{At, beyond, ended, short, long, attribute, view, Ahead, ahead}
 use Rattle.attribute.specs.BodyLaws.{bodyOf, unroll}
-use Rattle.attribute.specs.ScanLaws as scanning
+use Rattle.attribute.specs.Visits as visits
+use Rattle.attribute.specs.ScanLaws.{found-length}
 use Rattle.attribute.specs.declared.Walk.{Walk}
 use Rattle.rfc5389.specs.declared.Row.{Row}
 use Rattle.value.specs.declared.First.{First}
@@ -51,24 +52,24 @@ pub record Here (d : List ℕ) (p : ℕ) (a : Attr) (b : Body) : Type 0 where
 never : {r : List ℕ} {a : Attr} {b : Body} → stop r ≡ more a b → ⊥
 never e = let z : _≡_ {A = ℕ} 0 1 = cc in omega arith
 
-sized : (k : ℕ) {d : List ℕ} {p q v n x : ℕ} → Ahead d p q v n x → length (scanning.found d k v n x .value) ≡ n
+sized : (k : ℕ) {d : List ℕ} {p q v n x : ℕ} → Ahead d p q v n x → length (visits.found d k v n x .value) ≡ n
 sized k g = simp (length-take, length-drop) (omega (arith, g))
 
-seen-here : (k : ℕ) {d : List ℕ} {p q v n x : ℕ} → Ahead d p q v n x → Here d p (scanning.found d k v n x) (parse 0 (drop x d))
+seen-here : (k : ℕ) {d : List ℕ} {p q v n x : ℕ} → Ahead d p q v n x → Here d p (visits.found d k v n x) (parse 0 (drop x d))
 seen-here k {d} {p} {q} {v} {n} {x} g =
     let i : length (take n (drop v d)) ≡ n = sized k g in
     record {
       inside = omega (arith, g, i);
       value = rw (i, ← g .value-at);
-      rest = ap (λ (y : ℕ). parse 0 (drop y d)) (scanning.found-length k g);
+      rest = ap (λ (y : ℕ). parse 0 (drop y d)) (found-length k g);
     }
 
-as-found : (k : ℕ) {d : List ℕ} {p q v n x : ℕ} {a : Attr} {b : Body} → Ahead d p q v n x → more (scanning.found d k v n x) (parse 0 (drop x d)) ≡ more a b
+as-found : (k : ℕ) {d : List ℕ} {p q v n x : ℕ} {a : Attr} {b : Body} → Ahead d p q v n x → more (visits.found d k v n x) (parse 0 (drop x d)) ≡ more a b
     → Here d p a b
 as-found k {d} {p} {q} {v} {n} {x} {a} {b} g e =
-    let i : scanning.found d k v n x ≡ a = cc in
+    let i : visits.found d k v n x ≡ a = cc in
     let j : parse 0 (drop x d) ≡ b = cc in
-    subst (λ (y : Attr). Here d p y b) i (subst (λ (y : Body). Here d p (scanning.found d k v n x) y) j (seen-here k g))
+    subst (λ (y : Attr). Here d p y b) i (subst (λ (y : Body). Here d p (visits.found d k v n x) y) j (seen-here k g))
 
 here : (d : List ℕ) (p : ℕ) {w : Walk} (a : Attr) (b : Body) → At d p w → bodyOf d w ≡ more a b → Here d p a b
 here d p a b (beyond h) e = absurd (never e)

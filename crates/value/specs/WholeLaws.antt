@@ -7,7 +7,7 @@ use native.Mathlib.Omega.{arith}
 use lib.ListN.{length}
 use Rattle.base.specs.Choice.{pick}
 use Rattle.attribute.specs.Attribute.{Attr, bytesOf}
-use Rattle.attribute.specs.PassLaws.{Pass}
+use Rattle.attribute.specs.Scan.{Pass}
 use Rattle.rfc5389.specs.Fault.{fault}
 use Rattle.rfc5389.specs.declared.Row.{Row}
 use Rattle.message.specs.Reading.{answerSaid, readingSaid, valueFaults, readingOf}

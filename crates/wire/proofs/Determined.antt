@@ -1,6 +1,7 @@
 -- The contract of each public call determines its answer.
 use Prim.Native.Nat.{ℕ}
-use Rattle.base.specs.Determined.{Determines, by}
+use Rattle.base.specs.DeterminedLaws.{by}
+use Rattle.base.specs.Determined.{Determines}
 use Rattle.wire.specs.TypeNumber.{classNumber, methodMade, typeNumber, typeFrom}
 use Rattle.wire.specs.SaidLaws.{new-method-one, type-number-one, from-number-one}
 use Rattle.wire.specs.declared.method.Method.{Method}

@@ -1,6 +1,6 @@
 use Prim.Native.Nat.{_-_}
 use lib.ListN.{length}
-use Rattle.base.specs.Laid.{Laying, laying-start, laying-turn, laying-done}
+use Rattle.base.specs.LaidLaws.{Laying, laying-start, laying-turn, laying-done}
 use borrow.Author.Needs.{needs}
 use Rattle.buffers.proofs.lay.Statement.{statement}
 use Rattle.buffers.proofs.lay.Tie as tie
