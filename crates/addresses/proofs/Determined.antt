@@ -18,9 +18,9 @@ use Rattle.addresses.proofs.AddressKind.as_u16.Reads as as-u16-reads
 use Rattle.addresses.proofs.append_address.Kinds as append-address
 use Rattle.addresses.proofs.append_address.Reads as append-address-reads
 
-pub determined-as-u16 : Determines as-u16.ps as-u16.r {I = AddressKind} {A = ℕ} as-u16-reads.Asked as-u16-reads.Learnt
+pub determined-AddressKind-as-u16 : Determines as-u16.ps as-u16.r {I = AddressKind} {A = ℕ} as-u16-reads.Asked as-u16-reads.Learnt
     (λ κs a. a .0) (λ κs z e. z)
-determined-as-u16 =
+determined-AddressKind-as-u16 =
     by as-u16.ps as-u16.r as-u16-reads.Asked as-u16-reads.Learnt _ _
     (λ x. addressNumber x)
     (λ κs a y d i q. q)

@@ -21,9 +21,9 @@ use Rattle.append_typed.proofs.append_text.Reads as append-text-reads
 use Rattle.append_typed.proofs.append_unknown_attributes.Kinds as append-unknown
 use Rattle.append_typed.proofs.append_unknown_attributes.Reads as append-unknown-reads
 
-pub determined-as-u16 : Determines as-u16.ps as-u16.r {I = TextKind} {A = ℕ} as-u16-reads.Asked as-u16-reads.Learnt
+pub determined-TextKind-as-u16 : Determines as-u16.ps as-u16.r {I = TextKind} {A = ℕ} as-u16-reads.Asked as-u16-reads.Learnt
     (λ κs a. a .0) (λ κs z e. z)
-determined-as-u16 =
+determined-TextKind-as-u16 =
     by as-u16.ps as-u16.r as-u16-reads.Asked as-u16-reads.Learnt _ _
     (λ x. textNumber x)
     (λ κs a y d i q. q)
@@ -49,9 +49,9 @@ determined-append-text =
     (λ x. (answer (x .0) (refusal rfc5389 (textNumber (x .1)) (x .2)) (typed (textNumber (x .1)) (x .2)), appended (x .0) (refusal rfc5389 (textNumber (x .1)) (x .2)) (typed (textNumber (x .1)) (x .2))))
     (λ κs a y d i q. ap₂ (λ (u : Written) (v : List ℕ). (u, v)) (written-one (q .0)) (q .1))
 
-pub determined-append-unknown : Determines append-unknown.ps append-unknown.r {I = List ℕ × List ℕ} {A = Written × List ℕ} append-unknown-reads.Asked append-unknown-reads.Learnt
+pub determined-append-unknown-attributes : Determines append-unknown.ps append-unknown.r {I = List ℕ × List ℕ} {A = Written × List ℕ} append-unknown-reads.Asked append-unknown-reads.Learnt
     (λ κs a. (a .0 .now, a .1 .0 .now)) (λ κs z e. (z, e .0 .now))
-determined-append-unknown =
+determined-append-unknown-attributes =
     by append-unknown.ps append-unknown.r append-unknown-reads.Asked append-unknown-reads.Learnt _ _
     (λ x. (answer (x .0) (refusal rfc5389 0x000A (x .1)) (typed 0x000A (x .1)), appended (x .0) (refusal rfc5389 0x000A (x .1)) (typed 0x000A (x .1))))
     (λ κs a y d i q. ap₂ (λ (u : Written) (v : List ℕ). (u, v)) (written-one (q .0)) (q .1))

@@ -7,5 +7,5 @@ use Rattle.blocks.specs.Block.{blockOf}
 use Rattle.blocks.proofs.block.Kinds as block
 use Rattle.blocks.proofs.block.Reads as block-reads
 
-pub block-determined : Determines block.ps block.r {I = List ℕ} {A = List ℕ} block-reads.Asked block-reads.Learnt (λ κs a. a .0 .now) (λ κs z e. z)
-block-determined = by block.ps block.r block-reads.Asked block-reads.Learnt _ _ blockOf (λ κs a y d i q. q)
+pub determined-block : Determines block.ps block.r {I = List ℕ} {A = List ℕ} block-reads.Asked block-reads.Learnt (λ κs a. a .0 .now) (λ κs z e. z)
+determined-block = by block.ps block.r block-reads.Asked block-reads.Learnt _ _ blockOf (λ κs a y d i q. q)

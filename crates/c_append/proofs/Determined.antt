@@ -19,30 +19,30 @@ use Rattle.c_append.proofs.cratehoist_append_text.Reads as append-text-
 use Rattle.c_append.proofs.cratehoist_append_unknown_attributes.Kinds as append-unknown-attributes-kinds
 use Rattle.c_append.proofs.cratehoist_append_unknown_attributes.Reads as append-unknown-attributes-reads
 
-pub determined-refusal : Determines refusal-kinds.ps refusal-kinds.r {I = ℕ × List ℕ} {A = ℕ} refusal-reads.Asked refusal-reads.Learnt
+pub determined-cratehoist-refusal : Determines refusal-kinds.ps refusal-kinds.r {I = ℕ × List ℕ} {A = ℕ} refusal-reads.Asked refusal-reads.Learnt
     (λ κs a. (a .0, a .1 .0 .now)) (λ κs z e. z)
-determined-refusal =
+determined-cratehoist-refusal =
     by refusal-kinds.ps refusal-kinds.r refusal-reads.Asked refusal-reads.Learnt _ _
     (λ x. refusal rfc5389 (x .0) (x .1))
     (λ κs a y d i q. q)
 
-pub determined-append-value : Determines append-value-kinds.ps append-value-kinds.r {I = List ℕ × ℕ × ℕ × List ℕ} {A = Written × List ℕ} append-value-reads.Asked append-value-reads.Learnt
+pub determined-cratehoist-append-value : Determines append-value-kinds.ps append-value-kinds.r {I = List ℕ × ℕ × ℕ × List ℕ} {A = Written × List ℕ} append-value-reads.Asked append-value-reads.Learnt
     (λ κs a. (a .0 .now, a .1 .0, a .1 .1 .0, a .1 .1 .1 .0 .now)) (λ κs z e. (z, e .0 .now))
-determined-append-value =
+determined-cratehoist-append-value =
     by append-value-kinds.ps append-value-kinds.r append-value-reads.Asked append-value-reads.Learnt _ _
     (λ x. (told (answer (x .0) (x .1) (typed (x .2) (x .3))), appended (x .0) (x .1) (typed (x .2) (x .3))))
     (λ κs a y d i q. ap₂ (λ (u : Written) (v : List ℕ). (u, v)) (q .0) (q .1))
 
-pub determined-append-text : Determines append-text-kinds.ps append-text-kinds.r {I = List ℕ × ℕ × List ℕ} {A = Written × List ℕ} append-text-reads.Asked append-text-reads.Learnt
+pub determined-cratehoist-append-text : Determines append-text-kinds.ps append-text-kinds.r {I = List ℕ × ℕ × List ℕ} {A = Written × List ℕ} append-text-reads.Asked append-text-reads.Learnt
     (λ κs a. (a .0 .now, a .1 .0, a .1 .1 .0 .now)) (λ κs z e. (z, e .0 .now))
-determined-append-text =
+determined-cratehoist-append-text =
     by append-text-kinds.ps append-text-kinds.r append-text-reads.Asked append-text-reads.Learnt _ _
     (λ x. (told (answer (x .0) (textFault (x .1) (x .2)) (typed (x .1) (x .2))), appended (x .0) (textFault (x .1) (x .2)) (typed (x .1) (x .2))))
     (λ κs a y d i q. ap₂ (λ (u : Written) (v : List ℕ). (u, v)) (q .0) (q .1))
 
-pub determined-append-unknown-attributes : Determines append-unknown-attributes-kinds.ps append-unknown-attributes-kinds.r {I = List ℕ × List ℕ} {A = Written × List ℕ} append-unknown-attributes-reads.Asked append-unknown-attributes-reads.Learnt
+pub determined-cratehoist-append-unknown-attributes : Determines append-unknown-attributes-kinds.ps append-unknown-attributes-kinds.r {I = List ℕ × List ℕ} {A = Written × List ℕ} append-unknown-attributes-reads.Asked append-unknown-attributes-reads.Learnt
     (λ κs a. (a .0 .now, a .1 .0 .now)) (λ κs z e. (z, e .0 .now))
-determined-append-unknown-attributes =
+determined-cratehoist-append-unknown-attributes =
     by append-unknown-attributes-kinds.ps append-unknown-attributes-kinds.r append-unknown-attributes-reads.Asked append-unknown-attributes-reads.Learnt _ _
     (λ x. (told (answer (x .0) (refusal rfc5389 0x000A (x .1)) (typed 0x000A (x .1))), appended (x .0) (refusal rfc5389 0x000A (x .1)) (typed 0x000A (x .1))))
     (λ κs a y d i q. ap₂ (λ (u : Written) (v : List ℕ). (u, v)) (q .0) (q .1))

@@ -17,16 +17,16 @@ use Rattle.c_fields.proofs.cratehoist_append_address.Reads as append-ad
 use Rattle.c_fields.proofs.cratehoist_append_error_code.Kinds as append-error-code-kinds
 use Rattle.c_fields.proofs.cratehoist_append_error_code.Reads as append-error-code-reads
 
-pub determined-append-address : Determines append-address-kinds.ps append-address-kinds.r {I = List ℕ × ℕ × Address} {A = Written × List ℕ} append-address-reads.Asked append-address-reads.Learnt
+pub determined-cratehoist-append-address : Determines append-address-kinds.ps append-address-kinds.r {I = List ℕ × ℕ × Address} {A = Written × List ℕ} append-address-reads.Asked append-address-reads.Learnt
     (λ κs a. (a .0 .now, a .1 .0, a .1 .1 .0)) (λ κs z e. (z, e .0 .now))
-determined-append-address =
+determined-cratehoist-append-address =
     by append-address-kinds.ps append-address-kinds.r append-address-reads.Asked append-address-reads.Learnt _ _
     (λ x. (told (answer (x .0) (ofAddress (x .0) (x .1) (x .2) .0) (ofAddress (x .0) (x .1) (x .2) .1)), appended (x .0) (ofAddress (x .0) (x .1) (x .2) .0) (ofAddress (x .0) (x .1) (x .2) .1)))
     (λ κs a y d i q. ap₂ (λ (u : Written) (v : List ℕ). (u, v)) (q .0) (q .1))
 
-pub determined-append-error-code : Determines append-error-code-kinds.ps append-error-code-kinds.r {I = List ℕ × ℕ × List ℕ} {A = Written × List ℕ} append-error-code-reads.Asked append-error-code-reads.Learnt
+pub determined-cratehoist-append-error-code : Determines append-error-code-kinds.ps append-error-code-kinds.r {I = List ℕ × ℕ × List ℕ} {A = Written × List ℕ} append-error-code-reads.Asked append-error-code-reads.Learnt
     (λ κs a. (a .0 .now, a .1 .0, a .1 .1 .0 .now)) (λ κs z e. (z, e .0 .now))
-determined-append-error-code =
+determined-cratehoist-append-error-code =
     by append-error-code-kinds.ps append-error-code-kinds.r append-error-code-reads.Asked append-error-code-reads.Learnt _ _
     (λ x. (told (answer (x .0) (codeRefusal rfc5389 (x .1) (x .2)) (typed 0x0009 (codeValue (x .1) (x .2)))), appended (x .0) (codeRefusal rfc5389 (x .1) (x .2)) (typed 0x0009 (codeValue (x .1) (x .2)))))
     (λ κs a y d i q. ap₂ (λ (u : Written) (v : List ℕ). (u, v)) (q .0) (q .1))

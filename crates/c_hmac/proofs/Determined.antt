@@ -2,8 +2,9 @@
 use Prim.Native.Nat.{ℕ}
 use mathlib.Core.List.{List}
 use mathlib.Core.Bool.{Bool}
-use Rattle.base.specs.DeterminedLaws.{by}
+use mathlib.Core.Path.{ap}
 use Rattle.base.specs.Determined.{Determines}
+use Rattle.base.specs.DeterminedLaws.{by}
 use lib.ListN.{take}
 use Rattle.base.specs.Same.{same}
 use Rattle.sha1.specs.Sha1.{sha1}
@@ -19,30 +20,30 @@ use Rattle.c_hmac.proofs.cratehoist_hmac_front.Reads as hmac-front-read
 use Rattle.c_hmac.proofs.cratehoist_same_digest.Kinds as same-digest-kinds
 use Rattle.c_hmac.proofs.cratehoist_same_digest.Reads as same-digest-reads
 
-pub determined-sha1 : Determines sha1-kinds.ps sha1-kinds.r {I = List ℕ} {A = List ℕ} sha1-reads.Asked sha1-reads.Learnt
-    (λ κs a. a .0 .now) (λ κs z e. z .bytes)
-determined-sha1 =
+pub determined-cratehoist-sha1 : Determines sha1-kinds.ps sha1-kinds.r {I = List ℕ} {A = Digest} sha1-reads.Asked sha1-reads.Learnt
+    (λ κs a. a .0 .now) (λ κs z e. z)
+determined-cratehoist-sha1 =
     by sha1-kinds.ps sha1-kinds.r sha1-reads.Asked sha1-reads.Learnt _ _
-    (λ x. sha1 x)
-    (λ κs a y d i q. q)
+    (λ x. record { bytes = sha1 x })
+    (λ κs a y d i q. ap {B = Digest} (λ (b : List ℕ). record { bytes = b }) q)
 
-pub determined-hmac : Determines hmac-kinds.ps hmac-kinds.r {I = List ℕ × List ℕ} {A = List ℕ} hmac-reads.Asked hmac-reads.Learnt
-    (λ κs a. (a .0 .now, a .1 .0 .now)) (λ κs z e. z .bytes)
-determined-hmac =
+pub determined-cratehoist-hmac : Determines hmac-kinds.ps hmac-kinds.r {I = List ℕ × List ℕ} {A = Digest} hmac-reads.Asked hmac-reads.Learnt
+    (λ κs a. (a .0 .now, a .1 .0 .now)) (λ κs z e. z)
+determined-cratehoist-hmac =
     by hmac-kinds.ps hmac-kinds.r hmac-reads.Asked hmac-reads.Learnt _ _
-    (λ x. hmacOf (x .0) (x .1))
-    (λ κs a y d i q. q)
+    (λ x. record { bytes = hmacOf (x .0) (x .1) })
+    (λ κs a y d i q. ap {B = Digest} (λ (b : List ℕ). record { bytes = b }) q)
 
-pub determined-hmac-front : Determines hmac-front-kinds.ps hmac-front-kinds.r {I = List ℕ × List ℕ × ℕ × ℕ} {A = List ℕ} hmac-front-reads.Asked hmac-front-reads.Learnt
-    (λ κs a. (a .0 .now, a .1 .0 .now, a .1 .1 .0, a .1 .1 .1 .0)) (λ κs z e. z .bytes)
-determined-hmac-front =
+pub determined-cratehoist-hmac-front : Determines hmac-front-kinds.ps hmac-front-kinds.r {I = List ℕ × List ℕ × ℕ × ℕ} {A = Digest} hmac-front-reads.Asked hmac-front-reads.Learnt
+    (λ κs a. (a .0 .now, a .1 .0 .now, a .1 .1 .0, a .1 .1 .1 .0)) (λ κs z e. z)
+determined-cratehoist-hmac-front =
     by hmac-front-kinds.ps hmac-front-kinds.r hmac-front-reads.Asked hmac-front-reads.Learnt _ _
-    (λ x. hmacOf (x .0) (withLength (take (x .2) (x .1)) (x .3)))
-    (λ κs a y d i q. q)
+    (λ x. record { bytes = hmacOf (x .0) (withLength (take (x .2) (x .1)) (x .3)) })
+    (λ κs a y d i q. ap {B = Digest} (λ (b : List ℕ). record { bytes = b }) q)
 
-pub determined-same-digest : Determines same-digest-kinds.ps same-digest-kinds.r {I = Digest × List ℕ} {A = Bool} same-digest-reads.Asked same-digest-reads.Learnt
+pub determined-cratehoist-same-digest : Determines same-digest-kinds.ps same-digest-kinds.r {I = Digest × List ℕ} {A = Bool} same-digest-reads.Asked same-digest-reads.Learnt
     (λ κs a. (a .0, a .1 .0 .now)) (λ κs z e. z)
-determined-same-digest =
+determined-cratehoist-same-digest =
     by same-digest-kinds.ps same-digest-kinds.r same-digest-reads.Asked same-digest-reads.Learnt _ _
     (λ x. same ((x .0) .bytes) (x .1))
     (λ κs a y d i q. q)

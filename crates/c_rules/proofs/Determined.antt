@@ -17,30 +17,30 @@ use Rattle.c_rules.proofs.cratehoist_fault.Reads as fault-reads
 use Rattle.c_rules.proofs.cratehoist_fingerprint_at.Kinds as fingerprint-at-kinds
 use Rattle.c_rules.proofs.cratehoist_fingerprint_at.Reads as fingerprint-at-reads
 
-pub determined-sizes-of : Determines sizes-of-kinds.ps sizes-of-kinds.r {I = ℕ} {A = Sizes} sizes-of-reads.Asked sizes-of-reads.Learnt
+pub determined-cratehoist-sizes-of : Determines sizes-of-kinds.ps sizes-of-kinds.r {I = ℕ} {A = Sizes} sizes-of-reads.Asked sizes-of-reads.Learnt
     (λ κs a. a .0) (λ κs z e. z)
-determined-sizes-of =
+determined-cratehoist-sizes-of =
     by sizes-of-kinds.ps sizes-of-kinds.r sizes-of-reads.Asked sizes-of-reads.Learnt _ _
     (λ x. sized (look rfc5389 x))
     (λ κs a y d i q. q)
 
-pub determined-rule : Determines rule-kinds.ps rule-kinds.r {I = ℕ} {A = ℕ} rule-reads.Asked rule-reads.Learnt
+pub determined-cratehoist-rule : Determines rule-kinds.ps rule-kinds.r {I = ℕ} {A = ℕ} rule-reads.Asked rule-reads.Learnt
     (λ κs a. a .0) (λ κs z e. z)
-determined-rule =
+determined-cratehoist-rule =
     by rule-kinds.ps rule-kinds.r rule-reads.Asked rule-reads.Learnt _ _
     (λ x. ruled (ruleOf x))
     (λ κs a y d i q. q)
 
-pub determined-fault : Determines fault-kinds.ps fault-kinds.r {I = ℕ × List ℕ} {A = ℕ} fault-reads.Asked fault-reads.Learnt
+pub determined-cratehoist-fault : Determines fault-kinds.ps fault-kinds.r {I = ℕ × List ℕ} {A = ℕ} fault-reads.Asked fault-reads.Learnt
     (λ κs a. (a .0, a .1 .0 .now)) (λ κs z e. z)
-determined-fault =
+determined-cratehoist-fault =
     by fault-kinds.ps fault-kinds.r fault-reads.Asked fault-reads.Learnt _ _
     (λ x. fault rfc5389 (x .0) (x .1))
     (λ κs a y d i q. q)
 
-pub determined-fingerprint-at : Determines fingerprint-at-kinds.ps fingerprint-at-kinds.r {I = List ℕ × ℕ} {A = ℕ} fingerprint-at-reads.Asked fingerprint-at-reads.Learnt
+pub determined-cratehoist-fingerprint-at : Determines fingerprint-at-kinds.ps fingerprint-at-kinds.r {I = List ℕ × ℕ} {A = ℕ} fingerprint-at-reads.Asked fingerprint-at-reads.Learnt
     (λ κs a. (a .0 .now, a .1 .0)) (λ κs z e. z)
-determined-fingerprint-at =
+determined-cratehoist-fingerprint-at =
     by fingerprint-at-kinds.ps fingerprint-at-kinds.r fingerprint-at-reads.Asked fingerprint-at-reads.Learnt _ _
     (λ x. printed (x .0) (x .1))
     (λ κs a y d i q. q)

@@ -19,30 +19,30 @@ use Rattle.c_text.proofs.cratehoist_show.Reads as show-reads
 use Rattle.c_text.proofs.cratehoist_number_of.Kinds as number-of-kinds
 use Rattle.c_text.proofs.cratehoist_number_of.Reads as number-of-reads
 
-pub determined-first-bad : Determines first-bad-kinds.ps first-bad-kinds.r {I = List ℕ} {A = ℕ} first-bad-reads.Asked first-bad-reads.Learnt
+pub determined-cratehoist-first-bad : Determines first-bad-kinds.ps first-bad-kinds.r {I = List ℕ} {A = ℕ} first-bad-reads.Asked first-bad-reads.Learnt
     (λ κs a. a .0 .now) (λ κs z e. z)
-determined-first-bad =
+determined-cratehoist-first-bad =
     by first-bad-kinds.ps first-bad-kinds.r first-bad-reads.Asked first-bad-reads.Learnt _ _
     (λ x. firstBad x)
     (λ κs a y d i q. q)
 
-pub determined-unhex : Determines unhex-kinds.ps unhex-kinds.r {I = List ℕ × List ℕ} {A = Hex × List ℕ} unhex-reads.Asked unhex-reads.Learnt
+pub determined-cratehoist-unhex : Determines unhex-kinds.ps unhex-kinds.r {I = List ℕ × List ℕ} {A = Hex × List ℕ} unhex-reads.Asked unhex-reads.Learnt
     (λ κs a. (a .0 .now, a .1 .0 .now)) (λ κs z e. (z, e .1 .0 .now))
-determined-unhex =
+determined-cratehoist-unhex =
     by unhex-kinds.ps unhex-kinds.r unhex-reads.Asked unhex-reads.Learnt _ _
     (λ x. (spelled (hexOf (x .0)), read (hexOf (x .0)) (x .1) (x .0)))
     (λ κs a y d i q. ap₂ (λ (u : Hex) (v : List ℕ). (u, v)) (q .0) (q .1))
 
-pub determined-show : Determines show-kinds.ps show-kinds.r {I = List ℕ × List ℕ} {A = ℕ × List ℕ} show-reads.Asked show-reads.Learnt
+pub determined-cratehoist-show : Determines show-kinds.ps show-kinds.r {I = List ℕ × List ℕ} {A = ℕ × List ℕ} show-reads.Asked show-reads.Learnt
     (λ κs a. (a .0 .now, a .1 .0 .now)) (λ κs z e. (z, e .1 .0 .now))
-determined-show =
+determined-cratehoist-show =
     by show-kinds.ps show-kinds.r show-reads.Asked show-reads.Learnt _ _
     (λ x. (shown (x .1) (x .0), showing (x .1) (x .0)))
     (λ κs a y d i q. ap₂ (λ (u : ℕ) (v : List ℕ). (u, v)) (q .0) (q .1))
 
-pub determined-number-of : Determines number-of-kinds.ps number-of-kinds.r {I = List ℕ} {A = Number} number-of-reads.Asked number-of-reads.Learnt
+pub determined-cratehoist-number-of : Determines number-of-kinds.ps number-of-kinds.r {I = List ℕ} {A = Number} number-of-reads.Asked number-of-reads.Learnt
     (λ κs a. a .0 .now) (λ κs z e. z)
-determined-number-of =
+determined-cratehoist-number-of =
     by number-of-kinds.ps number-of-kinds.r number-of-reads.Asked number-of-reads.Learnt _ _
     (λ x. meant (numberOf x))
     (λ κs a y d i q. q)

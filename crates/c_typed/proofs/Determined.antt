@@ -12,9 +12,9 @@ use Rattle.c_wire.specs.declared.Id.{Id}
 use Rattle.c_typed.proofs.cratehoist_typed_value.Kinds as typed-value-kinds
 use Rattle.c_typed.proofs.cratehoist_typed_value.Reads as typed-value-reads
 
-pub determined-typed-value : Determines typed-value-kinds.ps typed-value-kinds.r {I = ℕ × List ℕ × Id} {A = Typed} typed-value-reads.Asked typed-value-reads.Learnt
+pub determined-cratehoist-typed-value : Determines typed-value-kinds.ps typed-value-kinds.r {I = ℕ × List ℕ × Id} {A = Typed} typed-value-reads.Asked typed-value-reads.Learnt
     (λ κs a. (a .0, a .1 .0 .now, a .1 .1 .0)) (λ κs z e. z)
-determined-typed-value =
+determined-cratehoist-typed-value =
     by typed-value-kinds.ps typed-value-kinds.r typed-value-reads.Asked typed-value-reads.Learnt _ _
     (λ x. typedSaid (typedOf rfc5389 (x .0) (x .1) (record { bytes = (x .2) .bytes })) (partAt rfc5389 (x .0) (x .1)) (length (partOf rfc5389 (x .0) (x .1))))
     (λ κs a y d i q. q)

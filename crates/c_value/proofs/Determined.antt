@@ -23,44 +23,44 @@ use Rattle.c_value.proofs.cratehoist_realm.Reads as realm-reads
 use Rattle.c_value.proofs.cratehoist_check_integrity.Kinds as check-integrity-kinds
 use Rattle.c_value.proofs.cratehoist_check_integrity.Reads as check-integrity-reads
 
-pub determined-search : Determines search-kinds.ps search-kinds.r {I = List ℕ × ℕ} {A = First} search-reads.Asked search-reads.Learnt
+pub determined-cratehoist-search : Determines search-kinds.ps search-kinds.r {I = List ℕ × ℕ} {A = First} search-reads.Asked search-reads.Learnt
     (λ κs a. (a .0 .now, a .1 .0)) (λ κs z e. z)
-determined-search =
+determined-cratehoist-search =
     by search-kinds.ps search-kinds.r search-reads.Asked search-reads.Learnt _ _
     (λ x. found (placed (firstIn (x .1) (x .0))))
     (λ κs a y d i q. q)
 
-pub determined-find : Determines find-kinds.ps find-kinds.r {I = List ℕ × ℕ} {A = First} find-reads.Asked find-reads.Learnt
+pub determined-cratehoist-find : Determines find-kinds.ps find-kinds.r {I = List ℕ × ℕ} {A = First} find-reads.Asked find-reads.Learnt
     (λ κs a. (a .0 .now, a .1 .0)) (λ κs z e. z)
-determined-find =
+determined-cratehoist-find =
     by find-kinds.ps find-kinds.r find-reads.Asked find-reads.Learnt _ _
     (λ x. found (placed (first rfc5389 (x .1) (x .0))))
     (λ κs a y d i q. q)
 
-pub determined-has : Determines has-kinds.ps has-kinds.r {I = List ℕ × ℕ} {A = Bool} has-reads.Asked has-reads.Learnt
+pub determined-cratehoist-has : Determines has-kinds.ps has-kinds.r {I = List ℕ × ℕ} {A = Bool} has-reads.Asked has-reads.Learnt
     (λ κs a. (a .0 .now, a .1 .0)) (λ κs z e. z)
-determined-has =
+determined-cratehoist-has =
     by has-kinds.ps has-kinds.r has-reads.Asked has-reads.Learnt _ _
     (λ x. isThere (first rfc5389 (x .1) (x .0)))
     (λ κs a y d i q. q)
 
-pub determined-first-value : Determines first-value-kinds.ps first-value-kinds.r {I = List ℕ × ℕ} {A = Part} first-value-reads.Asked first-value-reads.Learnt
+pub determined-cratehoist-first-value : Determines first-value-kinds.ps first-value-kinds.r {I = List ℕ × ℕ} {A = Part} first-value-reads.Asked first-value-reads.Learnt
     (λ κs a. (a .0 .now, a .1 .0)) (λ κs z e. z)
-determined-first-value =
+determined-cratehoist-first-value =
     by first-value-kinds.ps first-value-kinds.r first-value-reads.Asked first-value-reads.Learnt _ _
     (λ x. valueIn (first rfc5389 (x .1) (x .0)))
     (λ κs a y d i q. q)
 
-pub determined-realm : Determines realm-kinds.ps realm-kinds.r {I = List ℕ × List ℕ} {A = Part} realm-reads.Asked realm-reads.Learnt
+pub determined-cratehoist-realm : Determines realm-kinds.ps realm-kinds.r {I = List ℕ × List ℕ} {A = Part} realm-reads.Asked realm-reads.Learnt
     (λ κs a. (a .0 .now, a .1 .0 .now)) (λ κs z e. z)
-determined-realm =
+determined-cratehoist-realm =
     by realm-kinds.ps realm-kinds.r realm-reads.Asked realm-reads.Learnt _ _
     (λ x. realmIn (x .0) (x .1))
     (λ κs a y d i q. q)
 
-pub determined-check-integrity : Determines check-integrity-kinds.ps check-integrity-kinds.r {I = List ℕ × List ℕ} {A = ℕ} check-integrity-reads.Asked check-integrity-reads.Learnt
+pub determined-cratehoist-check-integrity : Determines check-integrity-kinds.ps check-integrity-kinds.r {I = List ℕ × List ℕ} {A = ℕ} check-integrity-reads.Asked check-integrity-reads.Learnt
     (λ κs a. (a .0 .now, a .1 .0 .now)) (λ κs z e. z)
-determined-check-integrity =
+determined-cratehoist-check-integrity =
     by check-integrity-kinds.ps check-integrity-kinds.r check-integrity-reads.Asked check-integrity-reads.Learnt _ _
     (λ x. integrityFault rfc5389 (x .0) (x .1))
     (λ κs a y d i q. q)

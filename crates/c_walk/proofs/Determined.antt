@@ -17,30 +17,30 @@ use Rattle.c_walk.proofs.cratehoist_step_at.Reads as step-at-reads
 use Rattle.c_walk.proofs.cratehoist_walk.Kinds as walk-kinds
 use Rattle.c_walk.proofs.cratehoist_walk.Reads as walk-reads
 
-pub determined-front-of : Determines front-of-kinds.ps front-of-kinds.r {I = List ℕ} {A = Header} front-of-reads.Asked front-of-reads.Learnt
+pub determined-cratehoist-front-of : Determines front-of-kinds.ps front-of-kinds.r {I = List ℕ} {A = Header} front-of-reads.Asked front-of-reads.Learnt
     (λ κs a. a .0 .now) (λ κs z e. z)
-determined-front-of =
+determined-cratehoist-front-of =
     by front-of-kinds.ps front-of-kinds.r front-of-reads.Asked front-of-reads.Learnt _ _
     (λ x. headed (frontOf x))
     (λ κs a y d i q. q)
 
-pub determined-header-of : Determines header-of-kinds.ps header-of-kinds.r {I = List ℕ} {A = Header} header-of-reads.Asked header-of-reads.Learnt
+pub determined-cratehoist-header-of : Determines header-of-kinds.ps header-of-kinds.r {I = List ℕ} {A = Header} header-of-reads.Asked header-of-reads.Learnt
     (λ κs a. a .0 .now) (λ κs z e. z)
-determined-header-of =
+determined-cratehoist-header-of =
     by header-of-kinds.ps header-of-kinds.r header-of-reads.Asked header-of-reads.Learnt _ _
     (λ x. headed (headerOf x))
     (λ κs a y d i q. q)
 
-pub determined-step-at : Determines step-at-kinds.ps step-at-kinds.r {I = List ℕ × ℕ} {A = Step} step-at-reads.Asked step-at-reads.Learnt
+pub determined-cratehoist-step-at : Determines step-at-kinds.ps step-at-kinds.r {I = List ℕ × ℕ} {A = Step} step-at-reads.Asked step-at-reads.Learnt
     (λ κs a. (a .0 .now, a .1 .0)) (λ κs z e. z)
-determined-step-at =
+determined-cratehoist-step-at =
     by step-at-kinds.ps step-at-kinds.r step-at-reads.Asked step-at-reads.Learnt _ _
     (λ x. stepped (stepAt (x .0) (x .1)))
     (λ κs a y d i q. q)
 
-pub determined-walk : Determines walk-kinds.ps walk-kinds.r {I = List ℕ × ℕ} {A = Step} walk-reads.Asked walk-reads.Learnt
+pub determined-cratehoist-walk : Determines walk-kinds.ps walk-kinds.r {I = List ℕ × ℕ} {A = Step} walk-reads.Asked walk-reads.Learnt
     (λ κs a. (a .0 .now, a .1 .0)) (λ κs z e. z)
-determined-walk =
+determined-cratehoist-walk =
     by walk-kinds.ps walk-kinds.r walk-reads.Asked walk-reads.Learnt _ _
     (λ x. stepped (walkAt (x .0) (x .1)))
     (λ κs a y d i q. q)

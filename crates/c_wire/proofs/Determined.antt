@@ -27,23 +27,23 @@ determined-class-numbered =
     (λ x. classNumbered x)
     (λ κs a y d i q. q)
 
-pub determined-type-number : Determines type-number-kinds.ps type-number-kinds.r {I = ℕ × ℕ} {A = Numbered} type-number-reads.Asked type-number-reads.Learnt
+pub determined-cratehoist-type-number : Determines type-number-kinds.ps type-number-kinds.r {I = ℕ × ℕ} {A = Numbered} type-number-reads.Asked type-number-reads.Learnt
     (λ κs a. (a .0, a .1 .0)) (λ κs z e. z)
-determined-type-number =
+determined-cratehoist-type-number =
     by type-number-kinds.ps type-number-kinds.r type-number-reads.Asked type-number-reads.Learnt _ _
     (λ x. numbered (x .0) (x .1))
     (λ κs a y d i q. q)
 
-pub determined-type-from : Determines type-from-kinds.ps type-from-kinds.r {I = ℕ} {A = Parted} type-from-reads.Asked type-from-reads.Learnt
+pub determined-cratehoist-type-from : Determines type-from-kinds.ps type-from-kinds.r {I = ℕ} {A = Parted} type-from-reads.Asked type-from-reads.Learnt
     (λ κs a. a .0) (λ κs z e. z)
-determined-type-from =
+determined-cratehoist-type-from =
     by type-from-kinds.ps type-from-kinds.r type-from-reads.Asked type-from-reads.Learnt _ _
     (λ x. parted (typeFrom x))
     (λ κs a y d i q. q)
 
-pub determined-address-xor : Determines address-xor-kinds.ps address-xor-kinds.r {I = Address × Id} {A = Formed} address-xor-reads.Asked address-xor-reads.Learnt
+pub determined-cratehoist-address-xor : Determines address-xor-kinds.ps address-xor-kinds.r {I = Address × Id} {A = Formed} address-xor-reads.Asked address-xor-reads.Learnt
     (λ κs a. (a .0, a .1 .0)) (λ κs z e. z)
-determined-address-xor =
+determined-cratehoist-address-xor =
     by address-xor-kinds.ps address-xor-kinds.r address-xor-reads.Asked address-xor-reads.Learnt _ _
     (λ x. formOf (x .0) (x .1))
     (λ κs a y d i q. q)

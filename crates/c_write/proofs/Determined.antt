@@ -29,30 +29,30 @@ determined-in-numbers =
     (λ x. told x)
     (λ κs a y d i q. q)
 
-pub determined-begin : Determines begin-kinds.ps begin-kinds.r {I = List ℕ × ℕ × ℕ × Id} {A = Written × List ℕ} begin-reads.Asked begin-reads.Learnt
+pub determined-cratehoist-begin : Determines begin-kinds.ps begin-kinds.r {I = List ℕ × ℕ × ℕ × Id} {A = Written × List ℕ} begin-reads.Asked begin-reads.Learnt
     (λ κs a. (a .0 .now, a .1 .0, a .1 .1 .0, a .1 .1 .1 .0)) (λ κs z e. (z, e .0 .now))
-determined-begin =
+determined-cratehoist-begin =
     by begin-kinds.ps begin-kinds.r begin-reads.Asked begin-reads.Learnt _ _
     (λ x. (begunBy (x .0) (x .1) (x .2), leftBy (x .0) (x .1) (x .2) (x .3)))
     (λ κs a y d i q. ap₂ (λ (u : Written) (v : List ℕ). (u, v)) (q .0) (q .1))
 
-pub determined-plan-for : Determines plan-for-kinds.ps plan-for-kinds.r {I = List ℕ × ℕ × ℕ × ℕ} {A = Plan} plan-for-reads.Asked plan-for-reads.Learnt
+pub determined-cratehoist-plan-for : Determines plan-for-kinds.ps plan-for-kinds.r {I = List ℕ × ℕ × ℕ × ℕ} {A = Plan} plan-for-reads.Asked plan-for-reads.Learnt
     (λ κs a. (a .0 .now, a .1 .0, a .1 .1 .0, a .1 .1 .1 .0)) (λ κs z e. z)
-determined-plan-for =
+determined-cratehoist-plan-for =
     by plan-for-kinds.ps plan-for-kinds.r plan-for-reads.Asked plan-for-reads.Learnt _ _
     (λ x. planned (planOf (x .0) (x .1) (x .2) (x .3)))
     (λ κs a y d i q. q)
 
-pub determined-append-unless : Determines append-unless-kinds.ps append-unless-kinds.r {I = List ℕ × ℕ × ℕ × List ℕ × List ℕ} {A = Written × List ℕ} append-unless-reads.Asked append-unless-reads.Learnt
+pub determined-cratehoist-append-unless : Determines append-unless-kinds.ps append-unless-kinds.r {I = List ℕ × ℕ × ℕ × List ℕ × List ℕ} {A = Written × List ℕ} append-unless-reads.Asked append-unless-reads.Learnt
     (λ κs a. (a .0 .now, a .1 .0, a .1 .1 .0, a .1 .1 .1 .0 .now, a .1 .1 .1 .1 .0 .now)) (λ κs z e. (z, e .0 .now))
-determined-append-unless =
+determined-cratehoist-append-unless =
     by append-unless-kinds.ps append-unless-kinds.r append-unless-reads.Asked append-unless-reads.Learnt _ _
     (λ x. (told (answer (x .0) (x .1) (attr (x .2) (x .3) (x .4))), appended (x .0) (x .1) (attr (x .2) (x .3) (x .4))))
     (λ κs a y d i q. ap₂ (λ (u : Written) (v : List ℕ). (u, v)) (q .0) (q .1))
 
-pub determined-append-raw : Determines append-raw-kinds.ps append-raw-kinds.r {I = List ℕ × ℕ × List ℕ × List ℕ} {A = Written × List ℕ} append-raw-reads.Asked append-raw-reads.Learnt
+pub determined-cratehoist-append-raw : Determines append-raw-kinds.ps append-raw-kinds.r {I = List ℕ × ℕ × List ℕ × List ℕ} {A = Written × List ℕ} append-raw-reads.Asked append-raw-reads.Learnt
     (λ κs a. (a .0 .now, a .1 .0, a .1 .1 .0 .now, a .1 .1 .1 .0 .now)) (λ κs z e. (z, e .0 .now))
-determined-append-raw =
+determined-cratehoist-append-raw =
     by append-raw-kinds.ps append-raw-kinds.r append-raw-reads.Asked append-raw-reads.Learnt _ _
     (λ x. (told (answer (x .0) 0 (attr (x .1) (x .2) (x .3))), appended (x .0) 0 (attr (x .1) (x .2) (x .3))))
     (λ κs a y d i q. ap₂ (λ (u : Written) (v : List ℕ). (u, v)) (q .0) (q .1))

@@ -8,6 +8,6 @@ use Rattle.compression.specs.Compression.{run}
 use Rattle.compression.proofs.absorb.Kinds as absorb
 use Rattle.compression.proofs.absorb.Reads as absorb-reads
 
-pub absorb-determined : Determines absorb.ps absorb.r {I = State × List ℕ} {A = State} absorb-reads.Asked absorb-reads.Learnt
+pub determined-absorb : Determines absorb.ps absorb.r {I = State × List ℕ} {A = State} absorb-reads.Asked absorb-reads.Learnt
     (λ κs a. (a .0, a .1 .0 .now)) (λ κs z e. z)
-absorb-determined = by absorb.ps absorb.r absorb-reads.Asked absorb-reads.Learnt _ _ (λ x. run (x .1) (x .0)) (λ κs a y d i q. q)
+determined-absorb = by absorb.ps absorb.r absorb-reads.Asked absorb-reads.Learnt _ _ (λ x. run (x .1) (x .0)) (λ κs a y d i q. q)

@@ -8,9 +8,9 @@ use Rattle.base.specs.Same.{same}
 use Rattle.digests.proofs.same_digest.Kinds as same-digest
 use Rattle.digests.proofs.same_digest.Reads as same-digest-reads
 
-pub same-digest-determined : Determines same-digest.ps same-digest.r {I = List ℕ × List ℕ} {A = Bool} same-digest-reads.Asked same-digest-reads.Learnt
+pub determined-same-digest : Determines same-digest.ps same-digest.r {I = List ℕ × List ℕ} {A = Bool} same-digest-reads.Asked same-digest-reads.Learnt
     (λ κs a. (a .0, a .1 .0 .now)) (λ κs z e. z)
-same-digest-determined =
+determined-same-digest =
     by same-digest.ps same-digest.r same-digest-reads.Asked same-digest-reads.Learnt _ _
     (λ x. same (x .0) (x .1))
     (λ κs a y d i q. q)

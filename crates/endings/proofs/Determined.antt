@@ -9,9 +9,9 @@ use Rattle.endings.specs.Finished.{finished}
 use Rattle.endings.proofs.finish.Kinds as finish
 use Rattle.endings.proofs.finish.Reads as finish-reads
 
-pub finish-determined : Determines finish.ps finish.r {I = State × ℕ × List ℕ} {A = List ℕ} finish-reads.Asked finish-reads.Learnt
+pub determined-finish : Determines finish.ps finish.r {I = State × ℕ × List ℕ} {A = List ℕ} finish-reads.Asked finish-reads.Learnt
     (λ κs a. (a .0, a .1 .0, a .1 .1 .0 .now)) (λ κs z e. z)
-finish-determined =
+determined-finish =
     by finish.ps finish.r finish-reads.Asked finish-reads.Learnt _ _
     (λ x. finished (x .0) (x .1 * 64 + length (x .2)) (x .2))
     (λ κs a y d i q. q)

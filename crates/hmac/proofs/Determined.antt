@@ -11,13 +11,13 @@ use Rattle.hmac.proofs.hmac.Reads as hmac-reads
 use Rattle.hmac.proofs.hmac_front.Kinds as front
 use Rattle.hmac.proofs.hmac_front.Reads as front-reads
 
-pub hmac-determined : Determines hmac.ps hmac.r {I = List ℕ × List ℕ} {A = List ℕ} hmac-reads.Asked hmac-reads.Learnt
+pub determined-hmac : Determines hmac.ps hmac.r {I = List ℕ × List ℕ} {A = List ℕ} hmac-reads.Asked hmac-reads.Learnt
     (λ κs a. (a .0 .now, a .1 .0 .now)) (λ κs z e. z)
-hmac-determined = by hmac.ps hmac.r hmac-reads.Asked hmac-reads.Learnt _ _ (λ x. hmacOf (x .0) (x .1)) (λ κs a y d i q. q)
+determined-hmac = by hmac.ps hmac.r hmac-reads.Asked hmac-reads.Learnt _ _ (λ x. hmacOf (x .0) (x .1)) (λ κs a y d i q. q)
 
-pub front-determined : Determines front.ps front.r {I = List ℕ × List ℕ × ℕ × ℕ} {A = List ℕ} front-reads.Asked front-reads.Learnt
+pub determined-hmac-front : Determines front.ps front.r {I = List ℕ × List ℕ × ℕ × ℕ} {A = List ℕ} front-reads.Asked front-reads.Learnt
     (λ κs a. (a .0 .now, a .1 .0 .now, a .1 .1 .0, a .1 .1 .1 .0)) (λ κs z e. z)
-front-determined =
+determined-hmac-front =
     by front.ps front.r front-reads.Asked front-reads.Learnt _ _
     (λ x. hmacOf (x .0) (withLength (take (x .2) (x .1)) (x .3)))
     (λ κs a y d i q. q)

@@ -16,11 +16,11 @@ use Rattle.net.proofs.xor_bytes.Reads as xor-bytes-reads
 use Rattle.net.proofs.socket_addr_xor.Kinds as addr-xor
 use Rattle.net.proofs.socket_addr_xor.Reads as addr-xor-reads
 
-pub determined-as-u8 : Determines as-u8.ps as-u8.r {I = Family} {A = ℕ} as-u8-reads.Asked as-u8-reads.Learnt (λ κs a. a .0) (λ κs z e. z)
-determined-as-u8 = by as-u8.ps as-u8.r as-u8-reads.Asked as-u8-reads.Learnt _ _ familyNumber (λ κs a y d i q. q)
+pub determined-Family-as-u8 : Determines as-u8.ps as-u8.r {I = Family} {A = ℕ} as-u8-reads.Asked as-u8-reads.Learnt (λ κs a. a .0) (λ κs z e. z)
+determined-Family-as-u8 = by as-u8.ps as-u8.r as-u8-reads.Asked as-u8-reads.Learnt _ _ familyNumber (λ κs a y d i q. q)
 
-pub determined-ip-size : Determines ip-size.ps ip-size.r {I = Family} {A = ℕ} ip-size-reads.Asked ip-size-reads.Learnt (λ κs a. a .0) (λ κs z e. z)
-determined-ip-size = by ip-size.ps ip-size.r ip-size-reads.Asked ip-size-reads.Learnt _ _ ipSize (λ κs a y d i q. q)
+pub determined-Family-ip-size : Determines ip-size.ps ip-size.r {I = Family} {A = ℕ} ip-size-reads.Asked ip-size-reads.Learnt (λ κs a. a .0) (λ κs z e. z)
+determined-Family-ip-size = by ip-size.ps ip-size.r ip-size-reads.Asked ip-size-reads.Learnt _ _ ipSize (λ κs a y d i q. q)
 
 pub determined-xor-bytes : Determines xor-bytes.ps xor-bytes.r {I = List ℕ × List ℕ} {A = List ℕ} xor-bytes-reads.Asked xor-bytes-reads.Learnt
     (λ κs a. (a .0 .now, a .1 .0 .now)) (λ κs z e. e .0 .now)

@@ -20,9 +20,9 @@ determined-append-fingerprint =
     (λ x. (answer x 0 (fingerprint x), appended x 0 (fingerprint x)))
     (λ κs a y d i q. ap₂ (λ (u : Written) (v : List ℕ). (u, v)) (written-one (q .0)) (q .1))
 
-pub determined-append-integrity : Determines append-integrity.ps append-integrity.r {I = List ℕ × List ℕ} {A = Written × List ℕ} append-integrity-reads.Asked append-integrity-reads.Learnt
+pub determined-append-message-integrity : Determines append-integrity.ps append-integrity.r {I = List ℕ × List ℕ} {A = Written × List ℕ} append-integrity-reads.Asked append-integrity-reads.Learnt
     (λ κs a. (a .0 .now, a .1 .0 .now)) (λ κs z e. (z, e .0 .now))
-determined-append-integrity =
+determined-append-message-integrity =
     by append-integrity.ps append-integrity.r append-integrity-reads.Asked append-integrity-reads.Learnt _ _
     (λ x. (answer (x .0) 0 (integrity (x .1) (x .0)), appended (x .0) 0 (integrity (x .1) (x .0))))
     (λ κs a y d i q. ap₂ (λ (u : Written) (v : List ℕ). (u, v)) (written-one (q .0)) (q .1))

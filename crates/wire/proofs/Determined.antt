@@ -21,18 +21,18 @@ use Rattle.wire.proofs.types.MessageType.as_u16.Reads as number-reads
 use Rattle.wire.proofs.types.MessageType.from_u16.Kinds as from
 use Rattle.wire.proofs.types.MessageType.from_u16.Reads as from-reads
 
-pub determined-new : Determines new.ps new.r {I = ℕ} {A = NewMethod} new-reads.Asked new-reads.Learnt (λ κs a. a .0) (λ κs z e. z)
-determined-new = by new.ps new.r new-reads.Asked new-reads.Learnt _ _ methodMade (λ κs a y d i q. new-method-one q)
+pub determined-Method-new : Determines new.ps new.r {I = ℕ} {A = NewMethod} new-reads.Asked new-reads.Learnt (λ κs a. a .0) (λ κs z e. z)
+determined-Method-new = by new.ps new.r new-reads.Asked new-reads.Learnt _ _ methodMade (λ κs a y d i q. new-method-one q)
 
-pub determined-method : Determines method.ps method.r {I = Method} {A = ℕ} method-reads.Asked method-reads.Learnt (λ κs a. a .0) (λ κs z e. z)
-determined-method = by method.ps method.r method-reads.Asked method-reads.Learnt _ _ (λ m. m .code) (λ κs a y d i q. q)
+pub determined-Method-as-u16 : Determines method.ps method.r {I = Method} {A = ℕ} method-reads.Asked method-reads.Learnt (λ κs a. a .0) (λ κs z e. z)
+determined-Method-as-u16 = by method.ps method.r method-reads.Asked method-reads.Learnt _ _ (λ m. m .code) (λ κs a y d i q. q)
 
-pub determined-class : Determines class.ps class.r {I = MessageClass} {A = ℕ} class-reads.Asked class-reads.Learnt (λ κs a. a .0) (λ κs z e. z)
-determined-class = by class.ps class.r class-reads.Asked class-reads.Learnt _ _ classNumber (λ κs a y d i q. q)
+pub determined-MessageClass-as-u16 : Determines class.ps class.r {I = MessageClass} {A = ℕ} class-reads.Asked class-reads.Learnt (λ κs a. a .0) (λ κs z e. z)
+determined-MessageClass-as-u16 = by class.ps class.r class-reads.Asked class-reads.Learnt _ _ classNumber (λ κs a y d i q. q)
 
-pub determined-type-number : Determines number.ps number.r {I = MessageType} {A = TypeNumber} number-reads.Asked number-reads.Learnt
+pub determined-MessageType-as-u16 : Determines number.ps number.r {I = MessageType} {A = TypeNumber} number-reads.Asked number-reads.Learnt
     (λ κs a. a .0) (λ κs z e. z)
-determined-type-number = by number.ps number.r number-reads.Asked number-reads.Learnt _ _ typeNumber (λ κs a y d i q. type-number-one q)
+determined-MessageType-as-u16 = by number.ps number.r number-reads.Asked number-reads.Learnt _ _ typeNumber (λ κs a y d i q. type-number-one q)
 
-pub determined-type-from : Determines from.ps from.r {I = ℕ} {A = FromNumber} from-reads.Asked from-reads.Learnt (λ κs a. a .0) (λ κs z e. z)
-determined-type-from = by from.ps from.r from-reads.Asked from-reads.Learnt _ _ typeFrom (λ κs a y d i q. from-number-one q)
+pub determined-MessageType-from-u16 : Determines from.ps from.r {I = ℕ} {A = FromNumber} from-reads.Asked from-reads.Learnt (λ κs a. a .0) (λ κs z e. z)
+determined-MessageType-from-u16 = by from.ps from.r from-reads.Asked from-reads.Learnt _ _ typeFrom (λ κs a y d i q. from-number-one q)
