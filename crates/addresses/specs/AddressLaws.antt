@@ -1,5 +1,5 @@
 -- The value of an address has none of the faults 11 to 14.
-use mathlib.Core.Path.{_≡_, refl}
+use mathlib.Core.Path.{_≡_}
 use lib.ListN.{length}
 use Rattle.net.specs.Net.{addrXor, addressValue}
 use Rattle.net.specs.NetLaws.{length-xored}

@@ -1,16 +1,16 @@
 -- The attributes of the bytes from a place on, by one step of the walk.
 use Prim.Native.Nat.{ℕ, zero, suc, _+_, _-_, _*_, _≤_, _<_}
-use mathlib.Core.List.{List, [], _∷_, _++_}
-use mathlib.Core.Path.{_≡_, refl, sym, ap, _∙_}
+use mathlib.Core.List.{List, [], _∷_}
+use mathlib.Core.Path.{_≡_, refl, ap, _∙_}
 use native.Mathlib.Omega.{arith}
 use borrow.Author.Tests.{le-leb, lt-leb}
 use lib.ListN.{length, take, drop, length-drop, drop-of-length-le}
 use lib.Seq.{drop-drop}
 use Rattle.numbers.specs.Numbers.{be16}
 use Rattle.numbers.specs.NumbersLaws.{four-at}
-use Rattle.attribute.specs.Attribute.{padded, Attr, Body, stop, more, attrOf, parse}
+use Rattle.attribute.specs.Attribute.{padded, Body, stop, more, attrOf, parse}
 use Rattle.attribute.specs.Walk.{stepAt}
-use Rattle.attribute.specs.WalkLaws.{At, beyond, ended, short, long, attribute, Stops, view, seen}
+use Rattle.attribute.specs.WalkLaws.{At, beyond, ended, short, long, attribute, Stops, seen}
 use Rattle.attribute.specs.declared.Walk.{Walk}
 use Rattle.attribute.specs.declared.Walk.the-variants.{Attribute, End, Cut}
 

@@ -19,7 +19,6 @@ use Rattle.attribute.specs.WalkLaws.{At, beyond, ended, short, long, att
 use Rattle.attribute.specs.BodyLaws.{bodyOf, unroll}
 use Rattle.attribute.specs.ScanLaws.{found-length}
 use Rattle.attribute.specs.declared.Walk.{Walk}
-use Rattle.attribute.specs.declared.Walk.the-variants.{Attribute, End}
 
 size-case : (a b c e : ℕ) (r : List ℕ) (x : Body) → sizes (attrs x) + length (rest x) ≡ length r - padded (c * 256 + e)
     → Dec (length r < padded (c * 256 + e))

@@ -1,5 +1,5 @@
 -- An attribute within the rules: a type and a size of 16 bits, and as much padding as the size wants (docs/SCOPE.md, "An attribute").
-use Prim.Native.Nat.{ℕ, _+_, _<_}
+use Prim.Native.Nat.{_+_, _<_}
 use mathlib.Core.List.{List, [], _∷_}
 use mathlib.Core.Path.{_≡_}
 use lib.ListN.{length}

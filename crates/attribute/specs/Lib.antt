@@ -4,7 +4,7 @@ pub mod Visits
 pub mod WalkLaws
 pub mod BodyLaws
 pub mod Good
-pub mod RoundTrip
+pub mod RoundTripLaws
 pub mod Scan
 pub mod ScanLaws
 pub mod PassLaws

@@ -1,11 +1,11 @@
 -- The loop that judges attributes: what holds at a place, and how a step carries it on. Stated once, over the fault.
 use Prim.Native.Nat.{ℕ, _+_, _-_, _≤_, _<_}
 use mathlib.Core.List.{List, [], _∷_}
-use mathlib.Core.Path.{_≡_, refl, sym, ap, ap₂, _∙_}
+use mathlib.Core.Path.{_≡_, refl, sym, ap, _∙_}
 use native.Mathlib.Omega.{arith}
 use borrow.Author.Tests.{eq-eqb, ne-eqb}
 use lib.ListN.{length, take, drop, length-append, length-take, length-drop}
-use Rattle.attribute.specs.Attribute.{padded, Attr, Body, stop, more, bytesOf, parse}
+use Rattle.attribute.specs.Attribute.{Attr, stop, more, bytesOf, parse}
 use Rattle.attribute.specs.Walk.{stepAt}
 use Rattle.attribute.specs.Visits.{found}
 use Rattle.attribute.specs.WalkLaws.{ended, Ahead, ahead, Stops, seen}

@@ -1,7 +1,7 @@
 -- The cases of a step, with the facts that go with each.
 use Prim.Native.Nat.{ℕ, _+_, _-_, _≤_, _<_}
 use mathlib.Core.List.{List}
-use mathlib.Core.Path.{_≡_, refl, sym, ap, _∙_, subst}
+use mathlib.Core.Path.{_≡_, refl, sym, subst}
 use native.Mathlib.Omega.{arith}
 use native.Mathlib.Decide.{decLt}
 use borrow.Author.Tests.{lt-ltb, le-ltb, eq-eqb, ne-eqb}
@@ -75,8 +75,3 @@ kind-is (attribute h) = refl
 pub data Stops : Walk → Type 0 where
   at-end : {p : ℕ} → Stops (End p)
   at-cut : {p : ℕ} → Stops (Cut p)
-
-pub cut-short : {d : List ℕ} {p q : ℕ} → At d p (Cut q) → p ≤ length d → (q ≡ p) × (p < length d)
-cut-short (beyond h) l = (refl, omega arith)
-cut-short (short h m) l = (refl, h)
-cut-short (long h m) l = (refl, omega arith)

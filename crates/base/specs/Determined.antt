@@ -1,7 +1,7 @@
 -- What it is for a contract to determine what its function gives: demand 1's 'two answers that it allows are equal'.
 use Prim.Native.Nat.{ℕ}
 use mathlib.Core.List.{List}
-use mathlib.Core.Path.{_≡_, sym, ap, _∙_}
+use mathlib.Core.Path.{_≡_}
 use contract.Lifetimes.{Lfts}
 use denote.Triple.Clauses.{AtExit}
 use borrow.Fn.Kinds.{PK, RK, In, Out, Dens, resT, endedOf}

@@ -3,13 +3,13 @@ pub mod Said
 pub mod SaidLaws
 pub mod Bytes
 pub mod BytesLaws
-pub mod Lists
-pub mod Xor
+pub mod ListLaws
+pub mod XorLaws
 pub mod Laid
 pub mod LaidLaws
-pub mod Filling
+pub mod FillingLaws
 pub mod Same
 pub mod SameLaws
 pub mod Determined
 pub mod DeterminedLaws
-pub mod Through
+pub mod ThroughLaws

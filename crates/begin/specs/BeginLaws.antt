@@ -2,9 +2,8 @@
 use Prim.Native.Nat.{ℕ}
 use mathlib.Core.List.{List}
 use mathlib.Core.Bool.{Bool, true, false}
-use mathlib.Core.Path.{_≡_, refl, sym}
+use mathlib.Core.Path.{_≡_, refl}
 use native.Mathlib.Omega.{arith}
-use borrow.Author.Tests.{eqb-true}
 use lib.Dec.{eqb}
 use Rattle.base.specs.Choice.{pick}
 use Rattle.base.specs.Laid.{laid}
@@ -12,16 +11,8 @@ use Rattle.wire.specs.TypeNumber.{typeOf, classNumber}
 use Rattle.wire.specs.declared.method.Method.{Method}
 use Rattle.wire.specs.declared.transaction_id.TransactionId.{TransactionId}
 use Rattle.wire.specs.declared.types.MessageClass.{MessageClass}
-use Rattle.begin.specs.Begin.{headBytes, beginFault, begun, beginning, writtenSaid}
+use Rattle.begin.specs.Begin.{headBytes, beginFault, begun, beginning}
 use Rattle.begin.specs.declared.Written.the-variants.{Total, Refused}
-
-pub begun-number : (d : List ℕ) (m : Method) → writtenSaid (begun d m) .number ≡ beginFault d (m .code)
-unfolding writtenSaid begun
-begun-number d m = go (eqb (beginFault d (m .code)) 0) refl
-  where
-    go : (b : Bool) → eqb (beginFault d (m .code)) 0 ≡ b → writtenSaid (pick b (Total 20) (Refused (beginFault d (m .code)))) .number ≡ beginFault d (m .code)
-    go true p = sym (eqb-true (beginFault d (m .code)) 0 p)
-    go false p = refl
 
 -- NOTHING SPOILT
 pub refused-keeps : (d : List ℕ) (c : MessageClass) (m : Method) (id : TransactionId) {k : ℕ} → begun d m ≡ Refused k → beginning d c m id ≡ d

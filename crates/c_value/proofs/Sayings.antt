@@ -6,7 +6,7 @@ use mathlib.Core.Path.{_≡_, sym, ap, _∙_}
 use native.Mathlib.Omega.{arith}
 use lib.ListN.{length, take, drop, length-take, length-drop}
 use Rattle.rfc5389.specs.Rows.{rfc5389}
-use Rattle.value.specs.First.{Place, none, first, placed, isThere, valueOf, valueAt}
+use Rattle.value.specs.First.{first, placed, isThere, valueOf, valueAt}
 use Rattle.value.specs.FirstLaws as laws
 use Rattle.value.specs.declared.First as value
 use Rattle.value.specs.declared.First.the-variants.{Found, Absent}

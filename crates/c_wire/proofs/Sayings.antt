@@ -1,6 +1,5 @@
 -- What the calls return, case by case.
 use Prim.Native.Nat.{ℕ, _≤_, _<_}
-use mathlib.Core.List.{List}
 use mathlib.Core.Path.{_≡_, sym, ap, _∙_}
 use borrow.Author.Tests.{lt-ltb, le-ltb, eq-eqb, ne-eqb}
 use lib.ListN.{replicate}
@@ -18,7 +17,6 @@ use Rattle.net.specs.declared.SocketAddr.{SocketAddr}
 use Rattle.c_wire.specs.Said.{numberedBy, numbered, parted, addr, back, formed, formOf}
 use Rattle.c_wire.specs.declared.Id.{Id}
 use Rattle.c_wire.specs.declared.Address.{Address}
-use Rattle.c_wire.specs.declared.Numbered.{Numbered}
 use Rattle.c_wire.specs.declared.Formed.{Formed}
 
 -- a type number

@@ -4,7 +4,7 @@ use Prim.Native.Nat.{ℕ, zero, suc, _+_, _-_, _*_, _/_, _%_, _^_, _<_, min}
 use native.Mathlib.Nat.{min-le-left, mod-lt, pow-suc}
 use native.Mathlib.Omega.{arith}
 use lib.Bits.{bitAnd, bitXor, and-step}
-use Rattle.base.specs.Xor.{same, xor-half, xor-odd}
+use Rattle.base.specs.XorLaws.{same, xor-half, xor-odd}
 use Rattle.compression.specs.Compression.{ch}
 
 and-half : (a b : ℕ) → bitAnd a b / 2 ≡ bitAnd (a / 2) (b / 2)

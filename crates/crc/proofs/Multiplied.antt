@@ -3,7 +3,7 @@ use mathlib.Core.Path.{_≡_, refl, sym, ap, ap₂, _∙_}
 use Prim.Native.Nat.{ℕ, suc, _+_, _-_, _*_, _/_, _%_, _^_, _≤_, _<_}
 use native.Mathlib.Omega.{arith}
 use lib.Bits.{bitXor, xor-zero-l, xor-zero-r}
-use Rattle.base.specs.Xor.{xor-assoc}
+use Rattle.base.specs.XorLaws.{xor-assoc}
 use Rattle.crc.specs.Crc.{bitStep}
 use Rattle.crc.specs.Octets.{times}
 use Rattle.crc.specs.ProductLaws.{times-nought}

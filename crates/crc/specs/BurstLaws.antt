@@ -9,7 +9,7 @@ use lib.ListN.{length, getD, take, drop, length-take, length-drop, take-append-d
 use lib.Seq.{ext-getD, getD-take, getD-drop}
 use lib.Bits.{bitXor, xor-zero-r, xor-self, xor-lt}
 use Rattle.base.specs.Bytes.{Bytes}
-use Rattle.base.specs.Xor.{xor-cancel, xor-eq}
+use Rattle.base.specs.XorLaws.{xor-cancel, xor-eq}
 use Rattle.crc.specs.Crc.{bytesFrom, crc32Of}
 use Rattle.crc.specs.Octets.{octets, word}
 use Rattle.crc.specs.CrcLaws.{octets-lt, octets-nought, bytesFrom-append, difference, word-lt, word-same}

@@ -1,7 +1,6 @@
 -- CRC-32/ISO-HDLC of a list of bytes, as the catalogue of parametrised CRC algorithms has it: width=32 poly=0x04c11db7
 -- init=0xffffffff refin=true refout=true xorout=0xffffffff check=0xcbf43926. Reflected, the polynomial is 0xEDB88320.
 use Prim.Native.Nat.{ℕ, zero, suc, _*_, _/_, _%_}
-use mathlib.Core.Path.{_≡_, refl}
 use mathlib.Core.List.{List, [], _∷_}
 use lib.Bits.{bitXor}
 
@@ -28,8 +27,3 @@ finished s = bitXor s 0xFFFF_FFFF
 
 unfoldable pub crc32Of : List ℕ → ℕ
 crc32Of bs = finished (bytesFrom 0xFFFF_FFFF bs)
-
--- the catalogue's check value: the CRC of the digits "123456789"
-pub check-value : crc32Of (0x31 ∷ 0x32 ∷ 0x33 ∷ 0x34 ∷ 0x35 ∷ 0x36 ∷ 0x37 ∷ 0x38 ∷ 0x39 ∷ []) ≡ 0xCBF4_3926
-unfolding crc32Of bytesFrom byteStep bitSteps bitStep
-check-value = refl

@@ -9,8 +9,8 @@ use lib.ListN.{length}
 use lib.Pow.{pow-pos, split}
 use lib.Bits.{bitXor, xor-zero-r, xor-self, xor-comm, xor-lt, xor-shifted, shifted-half, shifted-even}
 use Rattle.base.specs.Bytes.{Bytes}
-use Rattle.base.specs.Xor.{xor-half, xor-odd, xor-assoc, xor-swap, xor-twice, xor-eq}
-use Rattle.crc.specs.Crc.{bitStep, bitSteps, byteStep, bytesFrom, finished, crc32Of}
+use Rattle.base.specs.XorLaws.{xor-half, xor-odd, xor-assoc, xor-swap, xor-twice, xor-eq}
+use Rattle.crc.specs.Crc.{bitStep, bitSteps, byteStep, bytesFrom}
 use Rattle.crc.specs.Octets.{octets, word}
 
 -- ---- steps
@@ -137,11 +137,6 @@ pub bytesFrom-append : (s : ℕ) (u v : List ℕ) → bytesFrom s (u ++ v) ≡ b
 unfolding bytesFrom
 bytesFrom-append s [] v = refl
 bytesFrom-append s (b ∷ u) v = bytesFrom-append (byteStep s b) u v
-
--- a sum in two parts
-pub in-parts : (u v : List ℕ) → finished (bytesFrom (bytesFrom 0xFFFF_FFFF u) v) ≡ crc32Of (u ++ v)
-unfolding crc32Of
-in-parts u v = ap finished (sym (bytesFrom-append 0xFFFF_FFFF u v))
 
 -- the bytes may all go into the register at once, and the steps be taken after
 pub at-once : (s : ℕ) (bs : List ℕ) → bytesFrom s bs ≡ octets (length bs) (bitXor s (word bs))

@@ -5,7 +5,7 @@ use native.Mathlib.Omega.{arith}
 use native.Mathlib.Nat.{add-mul, mul-assoc, mod-lt, pow-suc}
 use lib.Pow.{pow-add, pow-pos, shl-lt, shr-lt, split}
 use lib.Bits.{bitXor, xor-shifted}
-use Rattle.base.specs.Xor.{xor-swap}
+use Rattle.base.specs.XorLaws.{xor-swap}
 use Rattle.crc.specs.Crc.{bitStep, bitSteps}
 use Rattle.crc.specs.Octets.{octets, times}
 use Rattle.crc.specs.CrcLaws.{digit-xor, bitStep-xor, bitSteps-xor, bitSteps-add, bitSteps-shift, bitSteps-zero}

@@ -10,7 +10,7 @@ use lib.ListN.{length, drop, getD, drop-of-length-le}
 use lib.Seq.{drop-cons}
 use lib.Dec.{eqb}
 use lib.Bits.{bitOr, bitXor, or-zero-l, or-add-and, and-le-l, and-le-r, xor-self}
-use Rattle.base.specs.Xor.{xor-eq}
+use Rattle.base.specs.XorLaws.{xor-eq}
 use Rattle.base.specs.SameLaws.{same-eq}
 use Rattle.base.specs.Same.{same}
 

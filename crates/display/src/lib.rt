@@ -1,6 +1,6 @@
 // What a person is shown: the bytes that a number is about, and the zeros that an IPv6 address leaves out.
 ghost use mathlib.Core.Path.{_≡_};
-ghost use Prim.Native.Nat.{_≤_, _<_};
+ghost use Prim.Native.Nat.{_<_};
 ghost use lib.ListN.{length, drop};
 ghost use Rattle.display.specs.Blame.{within, inAttribute, blamed};
 ghost use Rattle.display.specs.Zeros.{leading, betterOf, longest};

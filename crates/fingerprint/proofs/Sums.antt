@@ -1,15 +1,12 @@
 -- The sum in three parts, and the places where there is none.
 use Prim.Native.Nat.{ℕ, _+_, _-_, _/_, _%_, _≤_, _<_}
-use mathlib.Core.List.{List, [], _∷_, _++_, append-assoc}
-use mathlib.Core.Path.{_≡_, refl, sym, ap, ap₂, _∙_}
+use mathlib.Core.List.{List, [], _∷_, _++_}
+use mathlib.Core.Path.{_≡_, sym, ap, _∙_}
 use native.Mathlib.Omega.{arith}
 use borrow.Author.Tests.{lt-ltb, le-ltb}
-use lib.ListN.{length, getD, take, drop, length-take}
-use lib.Seq.{take-take, take-add}
+use lib.ListN.{length, getD, take, drop}
+use lib.Seq.{take-add}
 use lib.Bits.{bitXor}
-use Rattle.base.specs.LaidLaws.{laid-is}
-use Rattle.base.specs.Laid.{laid}
-use Rattle.base.specs.Lists.{drop-take}
 use Rattle.numbers.specs.Numbers.{be16, two, withLength}
 use Rattle.numbers.specs.NumbersLaws.{four-at}
 use Rattle.crc.specs.Crc.{bytesFrom, finished, crc32Of}

@@ -1,6 +1,6 @@
 -- The register is carried from place to place, and another length is put in by one product.
 use Prim.Native.Nat.{ℕ, _+_, _-_, _*_, _/_, _%_, _^_, _≤_, _<_}
-use mathlib.Core.List.{List, [], _∷_, _++_, append-assoc}
+use mathlib.Core.List.{List, _++_, append-assoc}
 use mathlib.Core.Path.{_≡_, refl, sym, ap, ap₂, _∙_}
 use native.Mathlib.Omega.{arith}
 use lib.ListN.{length, take, drop, length-take, length-drop}
@@ -8,9 +8,9 @@ use lib.Seq.{take-take, take-add, drop-drop}
 use lib.Bits.{bitXor, xor-zero-l, xor-lt}
 use Rattle.base.specs.LaidLaws.{laid-is}
 use Rattle.base.specs.Laid.{laid}
-use Rattle.base.specs.Lists.{drop-take}
+use Rattle.base.specs.ListLaws.{drop-take}
 use Rattle.numbers.specs.Numbers.{two, withLength}
-use Rattle.crc.specs.Crc.{bitSteps, bytesFrom, finished, crc32Of}
+use Rattle.crc.specs.Crc.{bytesFrom, finished, crc32Of}
 use Rattle.crc.specs.Octets.{octets, word, times}
 use Rattle.crc.specs.CrcLaws.{bitSteps-shift, octets-add, octets-xor, bytesFrom-append, at-once, patched, low-byte}
 use Rattle.crc.specs.ProductLaws.{product}

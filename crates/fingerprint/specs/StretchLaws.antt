@@ -2,7 +2,7 @@
 use Prim.Native.Nat.{ℕ, _+_, _-_, _*_, _/_, _%_, _≤_, _<_}
 use mathlib.Core.List.{List, [], _∷_, _++_}
 use mathlib.Core.Logic.{_⊎_, inl, inr}
-use mathlib.Core.Path.{_≡_, refl, sym, ap, ap₂, _∙_}
+use mathlib.Core.Path.{_≡_, sym, ap, ap₂, _∙_}
 use native.Mathlib.Omega.{arith}
 use native.Mathlib.Decide.{decLe, decLt}
 use lib.ListN.{length, getD, take, drop, length-take, length-drop, take-append-drop, List·getD-eq-default}
@@ -10,7 +10,7 @@ use lib.Seq.{ext-getD, getD-take, getD-drop}
 use lib.Bits.{bitXor}
 use Rattle.base.specs.BytesLaws.{take-bytes, drop-bytes}
 use Rattle.base.specs.Bytes.{Bytes}
-use Rattle.base.specs.Xor.{xor-cancel}
+use Rattle.base.specs.XorLaws.{xor-cancel}
 use Rattle.numbers.specs.Numbers.{be16, four, withLength}
 use Rattle.numbers.specs.NumbersLaws.{four-once}
 use Rattle.crc.specs.Crc.{crc32Of}

@@ -8,7 +8,7 @@ use native.Mathlib.Omega.{arith}
 use lib.ListN.{length, drop, take, length-drop}
 use lib.Pow.{pow-pos, shl-shr, shr-shr, shr-lt, split, high, low}
 use lib.Bits.{bitXor, xor-zero-r, xor-comm, xor-lt, xor-shifted, xor-block}
-use Rattle.base.specs.Xor.{xor-assoc, xor-swap}
+use Rattle.base.specs.XorLaws.{xor-assoc, xor-swap}
 use Rattle.crc.specs.Crc.{bitSteps, bytesFrom}
 use Rattle.crc.specs.Octets.{octets, word}
 use Rattle.crc.specs.CrcLaws.{bitSteps-add, bitSteps-over, bitSteps-split, bitSteps-down, wider}

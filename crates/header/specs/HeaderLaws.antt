@@ -9,7 +9,7 @@ use lib.ListN.{length, take, drop, length-take}
 use lib.Seq.{getD-take, take-take}
 use lib.Dec.{eqb, ltb, leb}
 use Rattle.base.specs.Choice.{pick}
-use Rattle.base.specs.Lists.{drop-take}
+use Rattle.base.specs.ListLaws.{drop-take}
 use Rattle.numbers.specs.Numbers.{be16}
 use Rattle.constants.specs.Cookie.{cookieAt}
 use Rattle.wire.specs.TypeNumber.{classOf, methodOf, classNumbered}

@@ -3,7 +3,7 @@ use Prim.Native.Nat.{ℕ, _-_, _≤_}
 use mathlib.Core.List.{List, []}
 use mathlib.Core.Path.{_≡_}
 use native.Mathlib.Omega.{arith}
-use borrow.Author.Tests.{eq-eqb, ne-eqb}
+use borrow.Author.Tests.{ne-eqb}
 use lib.ListN.{length, take, drop, replicate, length-take, length-drop}
 use Rattle.buffers.specs.Put.{put}
 use Rattle.wire.specs.declared.types.MessageClass.{MessageClass}

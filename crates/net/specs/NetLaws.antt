@@ -1,11 +1,11 @@
 -- Laws of the XOR form: over any size, and its own inverse.
-use Prim.Native.Nat.{ℕ, zero, suc, _+_, _≤_, _<_}
+use Prim.Native.Nat.{ℕ, zero, suc, _+_, _≤_}
 use mathlib.Core.List.{List, [], _∷_, _++_}
-use mathlib.Core.Path.{_≡_, refl, sym, ap, ap₂, _∙_}
+use mathlib.Core.Path.{_≡_, refl, ap, ap₂}
 use native.Mathlib.Omega.{arith}
 use lib.ListN.{length, take, drop}
 use lib.Bits.{bitXor}
-use Rattle.base.specs.Xor.{xor-twice}
+use Rattle.base.specs.XorLaws.{xor-twice}
 use Rattle.constants.specs.Cookie.{cookie}
 use Rattle.net.specs.Net.{ipSize, xored, addrXor}
 use Rattle.net.specs.declared.SocketAddr.{SocketAddr}

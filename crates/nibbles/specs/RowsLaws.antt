@@ -10,7 +10,7 @@ use lib.Dec.{T, eqb, eqb→eq}
 use lib.ListN.{length, getD}
 use lib.Bits.{bitXor, xor-zero-r}
 use Rattle.base.specs.Choice.{pick}
-use Rattle.base.specs.Xor.{xor-assoc}
+use Rattle.base.specs.XorLaws.{xor-assoc}
 use Rattle.crc.specs.Crc.{bitSteps, byteStep, bytesFrom}
 use Rattle.crc.specs.Octets.{octets}
 use Rattle.crc.specs.CrcLaws.{bitSteps-zero, bitSteps-xor, bitSteps-add, bitSteps-split, octets-suc, octets-xor}

@@ -1,7 +1,7 @@
 -- What an address is written as is an address: over the size of its IP.
 use Prim.Native.Nat.{ℕ, _+_, _≤_}
 use mathlib.Core.List.{List}
-use mathlib.Core.Path.{_≡_, refl, _∙_}
+use mathlib.Core.Path.{_≡_, refl}
 use native.Mathlib.Omega.{arith}
 use lib.ListN.{length, getD, take, length-take}
 use Rattle.net.specs.Net.{familyNumber, ipSize, addressValue}

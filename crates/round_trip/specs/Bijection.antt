@@ -17,7 +17,7 @@ use Rattle.header.specs.Header.{headerFault, idOf}
 use Rattle.header.specs.HeaderLaws.{Checked, checked, unrefused}
 use Rattle.attribute.specs.Attribute.{padded, Attr, attrs, rest, parse, allBytes}
 use Rattle.attribute.specs.Good.{Goods}
-use Rattle.attribute.specs.RoundTrip.{goods-read, decode-allBytes, allBytes-decode}
+use Rattle.attribute.specs.RoundTripLaws.{goods-read, decode-allBytes, allBytes-decode}
 use Rattle.begin.specs.Begin.{headBytes}
 use Rattle.round_trip.specs.Message.{Message, bytesOf, messageOf, Octets, Shaped, Writable, Sound}
 use Rattle.round_trip.specs.FrontLaws.{head-length, head-size, head-type, head-fault, head-body}

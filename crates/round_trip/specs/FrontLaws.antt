@@ -16,7 +16,7 @@ use Rattle.constants.specs.Cookie.{cookieAt}
 use Rattle.header.specs.Header.{frontFault}
 use Rattle.attribute.specs.Attribute.{padded, Attr, rest, parse, bytesOf, allBytes}
 use Rattle.attribute.specs.Good.{Good, Goods}
-use Rattle.attribute.specs.RoundTrip.{decode-allBytes}
+use Rattle.attribute.specs.RoundTripLaws.{decode-allBytes}
 use Rattle.begin.specs.Begin.{headBytes}
 use Rattle.begin.specs.declared.Written.the-variants.{Total}
 use Rattle.plan.specs.Plan.{sizeOf, messageFault, bodyWith}

@@ -1,13 +1,13 @@
 -- A FINGERPRINT appended to a whole message leaves it whole, with one attribute more; a MESSAGE-INTEGRITY appended is the digest of what stands before it.
-use Prim.Native.Nat.{ℕ, _+_, _-_, _/_, _%_, _≤_, _<_}
-use mathlib.Core.List.{List, [], _∷_, _++_, append-assoc, append-nil}
+use Prim.Native.Nat.{ℕ, _+_, _-_, _≤_, _<_}
+use mathlib.Core.List.{List, [], _∷_, _++_, append-nil}
 use mathlib.Core.Bool.{Bool, true, false}
-use mathlib.Core.Path.{_≡_, refl, sym, ap, ap₂, _∙_}
+use mathlib.Core.Path.{_≡_, refl, sym, ap, _∙_}
 use native.Mathlib.Omega.{arith}
 use native.Mathlib.Nat.{add-zero}
 use borrow.Author.Tests.{eqb-true, eq-eqb, le-ltb}
-use lib.ListN.{length, take, drop, length-append, length-take}
-use lib.Seq.{take-append-add, take-append-le, take-take, length-take-le}
+use lib.ListN.{length, take, drop, length-append}
+use lib.Seq.{take-append-add, take-append-le, take-take}
 use lib.Bits.{bitXor}
 use lib.Dec.{eqb}
 use Rattle.base.specs.Choice.{pick}
@@ -19,15 +19,12 @@ use Rattle.numbers.specs.Numbers.{be16, two, four, withLength}
 use Rattle.wire.specs.TypeNumber.{typeOf, classOf, methodOf, classNumber, classNumbered}
 use Rattle.wire.specs.declared.method.Method.{Method}
 use Rattle.wire.specs.declared.types.MessageClass.{MessageClass}
-use Rattle.header.specs.Header.{headerFault}
-use Rattle.attribute.specs.Attribute.{Attr, Body, stop, more, parse, allBytes}
+use Rattle.attribute.specs.Attribute.{Attr, stop, parse, allBytes}
 use Rattle.attribute.specs.Attribute as one
 use Rattle.attribute.specs.BodyLaws.{parse-none}
-use Rattle.attribute.specs.Good.{Goods}
-use Rattle.attribute.specs.RoundTrip.{before}
-use Rattle.attribute.specs.RoundTrip as attributes
+use Rattle.attribute.specs.RoundTripLaws.{before}
+use Rattle.attribute.specs.RoundTripLaws as attributes
 use Rattle.attribute.specs.Scan.{scan, scanned}
-use Rattle.attribute.specs.declared.Scan.{Scan}
 use Rattle.attribute.specs.declared.Scan.the-variants.{Passed, Fault}
 use Rattle.crc.specs.Crc.{crc32Of}
 use Rattle.fingerprint.specs.Fingerprint.{fingerprintAt}
@@ -48,11 +45,11 @@ use Rattle.append.specs.Append.{answer, appended}
 use Rattle.append.specs.AppendLaws.{total-goes}
 use Rattle.integrity.specs.Integrity.{integrityAt}
 use Rattle.seal.specs.Seal.{fingerprint, integrity}
-use Rattle.round_trip.specs.Message.{Message, bytesOf, messageOf, Shaped, with, held}
+use Rattle.round_trip.specs.Message.{Message, bytesOf, Shaped, with, held}
 use Rattle.round_trip.specs.FrontLaws.{head-length, head-again, all-append}
 use Rattle.round_trip.specs.Bijection.{header-again, body-again, t-again}
 use Rattle.round_trip.specs.Whole.{Passes, passes, passes-whole}
-use Rattle.round_trip.specs.Appending.{held-shaped, held-bytes, held-length, with-shaped, appended-bytes, appended-message}
+use Rattle.round_trip.specs.Appending.{held-shaped, held-bytes, held-length, with-shaped, appended-bytes}
 
 -- the attributes of a message's bytes, as one body
 body-is : (m : Message) → Shaped m → parse 0 (drop 20 (bytesOf m)) ≡ before (m .attributes) (stop [])

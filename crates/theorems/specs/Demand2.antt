@@ -13,7 +13,7 @@ use mathlib.Core.Bool.{Bool, true, false}
 use mathlib.Core.Path.{_≡_, refl, ap, _∙_}
 use native.Mathlib.Omega.{arith}
 use borrow.Author.Tests.{ltb-false}
-use lib.ListN.{length, take, drop}
+use lib.ListN.{length, take}
 use lib.Dec.{ltb}
 use Rattle.base.specs.Choice.{pick}
 use Rattle.base.specs.Bytes.{Bytes}
@@ -34,7 +34,7 @@ use Rattle.message.specs.WholeLaws.{told}
 use Rattle.message.specs.declared.Reading.{Reading}
 use Rattle.typed.specs.Typed.{codeOf, without, saidBy, readOf, typedOf, partBy, partOf}
 use Rattle.typed.specs.TypedLaws.{fields, part}
-use Rattle.typed.specs.Written.{mapped-back, alternate-back, xor-back}
+use Rattle.typed.specs.WrittenLaws.{mapped-back, alternate-back, xor-back}
 use Rattle.typed.specs.declared.Value.the-variants.{Code, Plain}
 use Rattle.begin.specs.declared.Written.the-variants.{Total}
 use Rattle.plan.specs.Plan.{sizeOf}

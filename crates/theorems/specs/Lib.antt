@@ -10,4 +10,4 @@ pub mod Sealing
 pub mod Five
 pub mod Sixteen
 pub mod Long
-pub mod Digests
+pub mod Published

@@ -2,15 +2,15 @@
 -- since no length field reaches so far. Under any list of types.
 use Prim.Native.Nat.{ℕ, _+_, _-_, _≤_, _<_}
 use mathlib.Core.List.{List}
-use mathlib.Core.Path.{_≡_, refl, sym, ap, _∙_}
+use mathlib.Core.Path.{_≡_, sym, ap, _∙_}
 use native.Mathlib.Omega.{arith}
 use borrow.Author.Tests.{ne-eqb, le-ltb}
 use lib.ListN.{length, take, drop, length-take}
 use lib.Seq.{getD-take, take-take, length-take-le}
-use lib.Dec.{eqb, ltb}
+use lib.Dec.{ltb}
 use Rattle.base.specs.BytesLaws.{byte-at}
 use Rattle.base.specs.Bytes.{Bytes}
-use Rattle.base.specs.Lists.{drop-take}
+use Rattle.base.specs.ListLaws.{drop-take}
 use Rattle.numbers.specs.Numbers.{be16}
 use Rattle.constants.specs.Cookie.{cookieAt}
 use Rattle.header.specs.Header.{frontFault, headerFault}

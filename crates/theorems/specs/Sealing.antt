@@ -25,7 +25,7 @@ use Rattle.plan.specs.PlanLaws as plan
 use Rattle.append.specs.Append.{answer, appended}
 use Rattle.append.specs.AppendLaws.{total-goes}
 use Rattle.seal.specs.Seal.{fingerprint}
-use Rattle.round_trip.specs.Message.{Message, bytesOf, messageOf, Octets, Writable, with, held}
+use Rattle.round_trip.specs.Message.{Message, messageOf, Octets, Writable, with, held}
 use Rattle.round_trip.specs.Bijection.{bijection}
 use Rattle.round_trip.specs.Appending.{held-sound, with-shaped, appended-bytes, appended-message}
 use Rattle.round_trip.specs.Sealed.{sealed}

@@ -18,7 +18,7 @@ use Rattle.unicode.specs.Utf8.{isUtf8, goes}
 use Rattle.rfc5389.specs.Rows.{rfc5389, look, sizesSaid}
 use Rattle.rfc5389.specs.Fault.{fault, ruleOf, sizeFault, ruleFault, addressFault, codeFault}
 use Rattle.fingerprints.specs.Fingerprints.{printFaults, printFault}
-use Rattle.message.specs.Reading.{answerSaid, readingSaid, readingOf, outcome, valueFaults}
+use Rattle.message.specs.Reading.{answerSaid, readingOf, outcome, valueFaults}
 use Rattle.value.specs.First.{firstFrom, firstIn, isWhole, first, valueOf}
 use Rattle.typed.specs.Typed.{valueSaid, typedSaid, ipOf, addressOf, codeOf, saidBy, plainOf, readOf, typedOf}
 use Rattle.begin.specs.declared.Written.the-variants.{Total, Refused}

@@ -16,7 +16,7 @@ use Rattle.attribute.specs.Attribute.{Attr, bytesOf, allBytes}
 use Rattle.rfc5389.specs.Rows.{rfc5389}
 use Rattle.message.specs.Reading.{readingOf}
 use Rattle.message.specs.declared.Answer.the-variants.{Whole}
-use Rattle.value.specs.First.{Place, none, starts, firstFrom, firstIn, wholeBy, isWhole, isThere}
+use Rattle.value.specs.First.{none, starts, firstFrom, firstIn, wholeBy, isWhole, isThere}
 use Rattle.begin.specs.declared.Written.the-variants.{Total}
 use Rattle.plan.specs.Plan.{sizeOf}
 use Rattle.plan.specs.PlanLaws.{message}

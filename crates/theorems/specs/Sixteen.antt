@@ -20,7 +20,7 @@ use Rattle.wire.specs.declared.types.MessageClass.{MessageClass}
 use Rattle.header.specs.Header.{frontFault, headerFault}
 use Rattle.header.specs.HeaderLaws.{sized}
 use Rattle.attribute.specs.Attribute.{Attr, Body, stop, more, attrs, rest, parse, bytesOf, allBytes}
-use Rattle.attribute.specs.RoundTrip.{write-read}
+use Rattle.attribute.specs.RoundTripLaws.{write-read}
 use Rattle.attribute.specs.Scan.{scan, scanned, Pass}
 use Rattle.attribute.specs.declared.Scan.{Scan}
 use Rattle.attribute.specs.declared.Scan.the-variants.{Passed, Fault}

@@ -1,26 +1,26 @@
 -- DEMAND 3, of the definition of whole: two whole datagrams of equal length, each with a FINGERPRINT as its last attribute, that agree
 -- outside four neighbouring places are equal. Under any list of types; nothing is assumed but that elements are bytes.
-use Prim.Native.Nat.{ℕ, suc, _+_, _-_, _*_, _/_, _%_, _≤_, _<_}
+use Prim.Native.Nat.{ℕ, _+_, _-_, _≤_, _<_}
 use mathlib.Core.List.{List, [], _∷_, _++_, append-assoc, append-nil}
 use mathlib.Core.Bool.{Bool, true, false}
 use mathlib.Core.Logic.{_⊎_}
-use mathlib.Core.Path.{_≡_, refl, sym, ap, ap₂, _∙_}
+use mathlib.Core.Path.{_≡_, refl, sym, ap, _∙_}
 use native.Mathlib.Omega.{arith}
-use borrow.Author.Tests.{eqb-true, eq-eqb, ltb-false}
-use lib.ListN.{length, getD, take, drop, length-append, length-drop}
+use borrow.Author.Tests.{eq-eqb}
+use lib.ListN.{length, getD, drop, length-append, length-drop}
 use lib.Seq.{drop-drop, drop-append-seam}
-use lib.Dec.{eqb, ltb}
+use lib.Dec.{ltb}
 use Rattle.base.specs.Choice.{pick}
 use Rattle.base.specs.BytesLaws.{drop-bytes}
 use Rattle.base.specs.Bytes.{Bytes}
 use Rattle.base.specs.SameLaws.{same-eq}
 use Rattle.base.specs.Same.{same}
-use Rattle.numbers.specs.Numbers.{be16, four}
+use Rattle.numbers.specs.Numbers.{four}
 use Rattle.header.specs.Header.{headerFault}
 use Rattle.header.specs.HeaderLaws.{long, sized}
-use Rattle.attribute.specs.Attribute.{padded, Attr, Body, stop, more, attrs, rest, parse, bytesOf, allBytes}
+use Rattle.attribute.specs.Attribute.{Attr, attrs, parse, bytesOf, allBytes}
 use Rattle.attribute.specs.Good.{Good, Goods}
-use Rattle.attribute.specs.RoundTrip.{goods-read, write-read}
+use Rattle.attribute.specs.RoundTripLaws.{goods-read, write-read}
 use Rattle.fingerprint.specs.Fingerprint.{fingerprintAt}
 use Rattle.fingerprint.specs.StretchLaws.{Sealed, stretch-sealed}
 use Rattle.rfc5389.specs.declared.Row.{Row}

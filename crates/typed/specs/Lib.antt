@@ -1,4 +1,4 @@
 pub mod Typed
 pub mod SaidLaws
 pub mod TypedLaws
-pub mod Written
+pub mod WrittenLaws

@@ -33,15 +33,10 @@ typed-number rows k v id = go (eqb (fault rows k v) 0) refl
     go true e = read-number (ruleOf k) k v id ∙ sym (eqb-true (fault rows k v) 0 e)
     go false e = refl
 
--- of a value at fault all fields are nought and the part is empty
-module _ (rows : List Row) (k : ℕ) (v : List ℕ) (n : fault rows k v ≡ 0 → ⊥) where
-  pub no-fields : (id : TransactionId) → typedOf rows k v id ≡ without (Refused (fault rows k v))
-  unfolding typedOf
-  no-fields id = simp (ne-eqb (fault rows k v) 0 n)
-
-  pub no-part : partOf rows k v ≡ []
-  unfolding partOf
-  no-part = simp (ne-eqb (fault rows k v) 0 n)
+-- of a value at fault the part is empty
+pub no-part : (rows : List Row) (k : ℕ) (v : List ℕ) → (fault rows k v ≡ 0 → ⊥) → partOf rows k v ≡ []
+unfolding partOf
+no-part rows k v n = simp (ne-eqb (fault rows k v) 0 n)
 
 -- and one without is read by the rule of its type
 module _ (rows : List Row) (k : ℕ) (v : List ℕ) (z : fault rows k v ≡ 0) where

@@ -4,4 +4,4 @@ pub mod Scalars
 pub mod ScalarsLaws
 pub mod Points
 pub mod PointsLaws
-pub mod Bijection
+pub mod BijectionLaws

@@ -1,7 +1,6 @@
 -- Unicode scalar values and their bytes: RFC 3629, section 3.
 use Prim.Native.Nat.{ℕ, _+_, _/_, _%_, _≤_}
 use mathlib.Core.List.{List, [], _∷_, _++_}
-use mathlib.Core.Path.{_≡_, refl}
 use lib.Dec.{leb}
 use Rattle.base.specs.Choice.{pick}
 
@@ -29,12 +28,3 @@ encode n =
 abbrev pub join : List ℕ → List ℕ
 join [] = []
 join (n ∷ ns) = encode n ++ join ns
-
--- section 7: 'A<NOT IDENTICAL TO><ALPHA>.', and a character of four bytes behind a byte order mark
-mixed : join (0x41 ∷ 0x2262 ∷ 0x391 ∷ 0x2E ∷ []) ≡ 0x41 ∷ 0xE2 ∷ 0x89 ∷ 0xA2 ∷ 0xCE ∷ 0x91 ∷ 0x2E ∷ []
-unfolding encode
-mixed = refl
-
-four : join (0xFEFF ∷ 0x233B4 ∷ []) ≡ 0xEF ∷ 0xBB ∷ 0xBF ∷ 0xF0 ∷ 0xA3 ∷ 0x8E ∷ 0xB4 ∷ []
-unfolding encode
-four = refl

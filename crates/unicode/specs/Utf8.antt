@@ -2,7 +2,6 @@
 use Prim.Native.Nat.{ℕ, zero, suc, _-_, _≤_}
 use mathlib.Core.List.{List, [], _∷_, _++_}
 use mathlib.Core.Bool.{Bool, true, false, _&&_}
-use mathlib.Core.Path.{_≡_, refl}
 use lib.ListN.{length}
 use lib.Dec.{leb}
 use Rattle.base.specs.Choice.{pick}
@@ -93,8 +92,3 @@ goes (suc k) (b ∷ s) = goes k s
 
 unfoldable pub isUtf8 : List ℕ → Bool
 isUtf8 s = goes 0 s
-
--- section 10: C0 80, which a naive decoder takes for the character 0
-naive : isUtf8 (0xC0 ∷ 0x80 ∷ []) ≡ false
-unfolding begins first width goes isUtf8
-naive = refl

@@ -1,6 +1,6 @@
 -- The grammar and the yes or no of Utf8 agree (`octets-yes`, `yes-octets`), with laws of both for callers.
 use Prim.Native.Nat.{ℕ, zero, suc, _-_, _≤_, _<_}
-use mathlib.Core.List.{List, [], _∷_, _++_, append-assoc}
+use mathlib.Core.List.{List, [], _∷_, _++_}
 use mathlib.Core.Bool.{Bool, true, false, _&&_, false≢true}
 use mathlib.Core.Path.{_≡_, refl, sym, ap, _∙_}
 use native.Mathlib.Omega.{arith}
@@ -211,14 +211,6 @@ within (suc n) (b ∷ s) h e = by (decLe 1 (width (b ∷ s))) (λ r l f. within 
 
 pub yes-octets : (s : List ℕ) → isUtf8 s ≡ true → Octets s
 yes-octets s e = within (length s) s (omega arith) e
-
--- FOR CALLERS. Behind a list that is UTF-8 only what follows counts
-pub utf8-append : (s t : List ℕ) → isUtf8 s ≡ true → isUtf8 (s ++ t) ≡ isUtf8 t
-utf8-append s t e = by (yes-octets s e)
-  where
-    by : {r : List ℕ} → Octets r → isUtf8 (r ++ t) ≡ isUtf8 t
-    by end = refl
-    by (char {c = c} {s = r} h o) = rw (append-assoc c r t) (utf8-char (r ++ t) h ∙ by o)
 
 -- ASCII
 pub utf8-ascii : (b : ℕ) (s : List ℕ) → b < 0x80 → isUtf8 (b ∷ s) ≡ isUtf8 s

@@ -1,11 +1,10 @@
 -- What is known of a whole datagram: what the reader lets through has no fault, and the reader's number is 0 only of one.
 use Prim.Native.Nat.{ℕ, _+_}
 use mathlib.Core.List.{List, [], _∷_}
-use mathlib.Core.Bool.{Bool, true, false}
-use mathlib.Core.Path.{_≡_, refl, sym, ap, _∙_}
+use mathlib.Core.Bool.{true, false}
+use mathlib.Core.Path.{_≡_, refl, ap}
 use native.Mathlib.Omega.{arith}
 use lib.ListN.{length}
-use Rattle.base.specs.Choice.{pick}
 use Rattle.attribute.specs.Attribute.{Attr, bytesOf}
 use Rattle.attribute.specs.Scan.{Pass}
 use Rattle.rfc5389.specs.Fault.{fault}
@@ -16,7 +15,7 @@ use Rattle.message.specs.WholeLaws.{Parts, parts, told}
 use Rattle.message.specs.declared.Answer.{Answer}
 use Rattle.message.specs.declared.Answer.the-variants as answer
 use Rattle.message.specs.declared.Reading.{Reading}
-use Rattle.value.specs.First.{none, starts, firstFrom, firstIn, wholeBy, isWhole, first}
+use Rattle.value.specs.First.{starts, firstFrom, firstIn, wholeBy, isWhole, first}
 use Rattle.value.specs.FirstLaws.{Heads, head, later, heads, nowhere, only-whole}
 
 no : false ≡ true → ⊥
@@ -57,11 +56,3 @@ unfolding firstIn
 served rows k d e =
     let w : (isWhole rows d ≡ true) × (firstIn k d ≡ starts _ _) = only-whole rows k d e in
     first-passes rows k 20 (attributes d) (passes rows d (w .0) .values) (w .1)
-
-pub first-whole : (rows : List Row) (k : ℕ) (d : List ℕ) → isWhole rows d ≡ true → first rows k d ≡ firstIn k d
-unfolding first
-first-whole rows k d e = rw e
-
-pub first-not-whole : (rows : List Row) (k : ℕ) (d : List ℕ) → isWhole rows d ≡ false → first rows k d ≡ none
-unfolding first
-first-not-whole rows k d e = rw e

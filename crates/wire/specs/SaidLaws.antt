@@ -1,6 +1,5 @@
 -- What an answer says tells it apart from every other of its kind.
 use Prim.Native.Nat.{ℕ, zero, suc}
-use mathlib.Core.List.{List}
 use mathlib.Core.Path.{_≡_, refl, ap}
 use lib.ListN.{getD}
 use Rattle.base.specs.Said.{Said}

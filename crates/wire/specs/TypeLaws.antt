@@ -1,6 +1,6 @@
 -- The type number and its class and method are inverse to each other, on their whole range.
 use Prim.Native.Nat.{ℕ, zero, suc, _+_, _*_, _/_, _%_, _<_}
-use mathlib.Core.Path.{_≡_, refl, sym, ap, ap₂, _∙_}
+use mathlib.Core.Path.{_≡_, refl}
 use native.Mathlib.Omega.{arith}
 use borrow.Author.Tests.{lt-ltb}
 use Rattle.wire.specs.TypeNumber.{typeOf, classOf, methodOf, classNumber, classNumbered, typeNumber, typeFrom}

@@ -4,7 +4,6 @@ use mathlib.Core.List.{[], _∷_}
 use lib.Dec.{ltb}
 use Rattle.base.specs.Choice.{pick}
 use Rattle.base.specs.Said.{Said, says}
-use Rattle.wire.specs.declared.method.Method.{Method}
 use Rattle.wire.specs.declared.method.NewMethod.{NewMethod}
 use Rattle.wire.specs.declared.method.NewMethod.the-variants as new
 use Rattle.wire.specs.declared.types.MessageClass.{MessageClass}

@@ -1,4 +1,3 @@
-use native.Mathlib.Omega.{arith}
 use borrow.Author.Needs.{needs}
 use Rattle.compression.proofs.Mixes.{choice-is}
 use Rattle.compression.proofs.choice.Statement.{statement}

@@ -1,5 +1,4 @@
 use Rattle.display.proofs.Runs.{longer, kept}
-use borrow.Author.Needs.{needs}
 use Rattle.display.proofs.better.Statement.{statement}
 use Rattle.display.proofs.better.Tie as tie
 

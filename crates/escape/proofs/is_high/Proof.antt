@@ -1,5 +1,4 @@
 use Rattle.escape.proofs.Escaping.{low, not-low}
-use borrow.Author.Needs.{needs}
 use Rattle.escape.proofs.is_high.Statement.{statement}
 use Rattle.escape.proofs.is_high.Tie as tie
 

@@ -1,7 +1,7 @@
 use Prim.Native.Nat.{_-_}
 use mathlib.Core.Path.{refl}
 use lib.ListN.{drop}
-use Rattle.base.specs.Filling.{Filling, filling-start, filling-from, filling-done}
+use Rattle.base.specs.FillingLaws.{Filling, filling-start, filling-from, filling-done}
 use Rattle.header.specs.Header.{idOf}
 use borrow.Author.Needs.{needs}
 use Rattle.header.proofs.id_of.Statement.{statement}

@@ -1,6 +1,4 @@
 use Rattle.net.proofs.Xoring.{ip-4, ip-16}
-use mathlib.Core.Path.{_≡_}
-use lib.ListN.{length}
 use borrow.Author.Needs.{needs}
 use Rattle.net.proofs.xor_ip.Statement.{statement}
 use Rattle.net.proofs.xor_ip.Tie as tie

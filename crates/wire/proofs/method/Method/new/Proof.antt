@@ -1,6 +1,5 @@
 use borrow.Author.Tests.{lt-ltb, le-ltb}
 use Rattle.wire.specs.TypeNumber.{methodMade}
-use borrow.Author.Needs.{needs}
 use Rattle.wire.proofs.method.Method.new.Statement.{statement}
 use Rattle.wire.proofs.method.Method.new.Tie as tie
 

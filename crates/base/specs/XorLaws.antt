@@ -62,6 +62,3 @@ xor-cancel a b c e = sym (xor-twice a c) ∙ ap (λ (x : ℕ). bitXor x c) e ∙
 -- numbers whose difference is nought are the same
 pub xor-eq : (a b : ℕ) → bitXor a b ≡ 0 → a ≡ b
 xor-eq a b e = sym (xor-twice a b) ∙ ap (λ (x : ℕ). bitXor x b) e
-
-pub xor-both : (a b c : ℕ) → bitXor (bitXor c a) (bitXor c b) ≡ bitXor a b
-xor-both a b c = xor-swap c a c b ∙ ap (λ (x : ℕ). bitXor x (bitXor a b)) (xor-self c)

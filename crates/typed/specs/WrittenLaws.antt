@@ -5,9 +5,9 @@ use mathlib.Core.List.{List, [], _∷_, _++_}
 use mathlib.Core.Path.{_≡_, refl, sym, ap, _∙_}
 use native.Mathlib.Omega.{arith}
 use borrow.Author.Tests.{le-leb}
-use lib.ListN.{length, getD, take, drop, replicate, length-take, take-append-drop, drop-of-length-le}
+use lib.ListN.{length, take, drop, replicate, length-take, take-append-drop}
 use Rattle.base.specs.LaidLaws.{laid-is}
-use Rattle.numbers.specs.Numbers.{be16, two}
+use Rattle.numbers.specs.Numbers.{be16}
 use Rattle.buffers.specs.Put.{fitsAt, put}
 use Rattle.constants.specs.Cookie.{cookie}
 use Rattle.wire.specs.declared.transaction_id.TransactionId.{TransactionId}

@@ -1,12 +1,36 @@
--- The definitions of SHA-1 and HMAC compute: the examples of one and two blocks that FIPS 180-4 points to and the empty message, and two of the cases of RFC 2202 section 3.
+-- Published values, computed of the definitions: the CRC catalogue's check value; the examples of one and two blocks that FIPS 180-4 points to and
+-- the empty message; two of the cases of RFC 2202 section 3; two of the examples of RFC 3629 section 7, and one of section 10.
 use mathlib.Core.Path.{_≡_, refl}
+use mathlib.Core.Bool.{false}
 use mathlib.Core.List.{[], _∷_}
 use lib.ListN.{replicate}
+use Rattle.crc.specs.Crc.{bitStep, bitSteps, byteStep, bytesFrom, crc32Of}
+use Rattle.unicode.specs.Utf8.{begins, first, width, goes, isUtf8}
+use Rattle.unicode.specs.Scalars.{encode, join}
 use Rattle.compression.specs.Compression.{mixOf, constantOf, nextWord, schedule, round, rounds, compress, blocks, run}
 use Rattle.blocks.specs.Block.{blockOf}
 use Rattle.endings.specs.Finished.{countOf, padding, finished}
 use Rattle.sha1.specs.Sha1.{sha1}
 use Rattle.hmac.specs.Hmac.{keyBlock, xored, hmacOf}
+
+-- the CRC-32 of the digits "123456789"
+pub check-value : crc32Of (0x31 ∷ 0x32 ∷ 0x33 ∷ 0x34 ∷ 0x35 ∷ 0x36 ∷ 0x37 ∷ 0x38 ∷ 0x39 ∷ []) ≡ 0xCBF4_3926
+unfolding crc32Of bytesFrom byteStep bitSteps bitStep
+check-value = refl
+
+-- 'A<NOT IDENTICAL TO><ALPHA>.', and a character of four bytes behind a byte order mark
+pub mixed : join (0x41 ∷ 0x2262 ∷ 0x391 ∷ 0x2E ∷ []) ≡ 0x41 ∷ 0xE2 ∷ 0x89 ∷ 0xA2 ∷ 0xCE ∷ 0x91 ∷ 0x2E ∷ []
+unfolding encode
+mixed = refl
+
+pub four : join (0xFEFF ∷ 0x233B4 ∷ []) ≡ 0xEF ∷ 0xBB ∷ 0xBF ∷ 0xF0 ∷ 0xA3 ∷ 0x8E ∷ 0xB4 ∷ []
+unfolding encode
+four = refl
+
+-- C0 80, which a naive decoder takes for the character 0
+pub naive : isUtf8 (0xC0 ∷ 0x80 ∷ []) ≡ false
+unfolding begins first width goes isUtf8
+naive = refl
 
 -- no bytes
 pub empty : sha1 []

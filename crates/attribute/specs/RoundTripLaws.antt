@@ -1,18 +1,18 @@
 -- Attributes written one after the other are read as they were, and attributes read are written as they were.
 use Prim.Native.Nat.{ℕ, zero, suc, _+_, _-_, _*_, _/_, _%_, _≤_, _<_}
 use mathlib.Core.List.{List, [], _∷_, _++_, append-assoc, append-nil}
-use mathlib.Core.Path.{_≡_, refl, sym, ap, ap₂, _∙_, subst}
+use mathlib.Core.Path.{_≡_, refl, sym, ap, _∙_}
 use native.Mathlib.Omega.{arith}
 use native.Mathlib.Decide.{decLt}
-use lib.ListN.{length, getD, take, drop, length-append, length-drop, length-take, take-append-drop}
+use lib.ListN.{length, take, drop, length-append, length-drop, take-append-drop}
 use lib.Dec.{leb}
 use borrow.Author.Tests.{le-leb, lt-leb}
-use lib.Seq.{length-take-le, take-at, drop-at, drop-drop, take-add}
+use lib.Seq.{length-take-le, take-at, drop-at, take-add}
 use Rattle.base.specs.Choice.{pick}
 use Rattle.base.specs.Bytes.{Bytes}
 use Rattle.attribute.specs.Attribute.{padded, Attr, Body, stop, more, attrs, rest, attrOf, parse, bytesOf, allBytes}
 use Rattle.attribute.specs.Good.{Good, Goods}
-use Rattle.attribute.specs.BodyLaws.{parse-none, parse-short, parse-attr, parse-long, parse-skip}
+use Rattle.attribute.specs.BodyLaws.{parse-none, parse-attr}
 
 -- the attributes xs, and then what b is
 abbrev pub before : List Attr → Body → Body
@@ -131,14 +131,3 @@ decode-allBytes xs g =
 pub allBytes-decode : (d : List ℕ) → Bytes d → rest (parse 0 d) ≡ [] → allBytes (attrs (parse 0 d)) ≡ d
 allBytes-decode d h e =
     sym (append-nil (allBytes (attrs (parse 0 d)))) ∙ ap (λ (r : List ℕ). allBytes (attrs (parse 0 d)) ++ r) (sym e) ∙ write-read 0 d h
-
--- an attribute appended behind whole ones is read behind them
-pub read-appended : (d : List ℕ) (a : Attr) → Bytes d → rest (parse 0 d) ≡ [] → Good a
-    → parse 0 (d ++ bytesOf a) ≡ before (attrs (parse 0 d)) (more a (stop []))
-read-appended d a h e g =
-    let xs : List Attr = attrs (parse 0 d) in
-    let f : allBytes xs ≡ d = allBytes-decode d h e in
-    let one : parse 0 (bytesOf a) ≡ more a (stop []) =
-    ap (λ (s : List ℕ). parse 0 s) (sym (append-nil (bytesOf a))) ∙ read-attr a [] g ∙ ap (λ (b : Body). more a b) parse-none
-    in
-    ap (λ (s : List ℕ). parse 0 (s ++ bytesOf a)) (sym f) ∙ read-written xs (bytesOf a) (goods-read 0 d h) ∙ ap (λ (b : Body). before xs b) one
