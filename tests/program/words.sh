@@ -15,6 +15,9 @@ each_word() { tr -s ' \n' '\n'; }
 # a call whose standard output is a terminal
 terminal() { python3 tests/program/terminal.py "$@"; }
 
+# a call whose standard input breaks off with an error
+breaking() { python3 tests/program/breaking.py "$@"; }
+
 # A tree with our launcher in $work/tree, and a program that is a line of sh; rt, which it asks for a proof, is a line of sh too.
 tree() {
     mkdir -p "$work/bin" "$work/tree/crates/stun/src" "$work/tree/target/bin" "$work/tree/tools"
@@ -35,5 +38,5 @@ launch() {
     sed "s|$work|WORK|" "$work/said"
     [ ! -e "$work/asked" ] || cat "$work/asked"
     rm -f "$work/asked"
-    sleep 0.02 # so that what is edited next is newer
+    sleep 0.05 # so that what is edited next is newer
 }
