@@ -7,4 +7,4 @@ for line in [b"buffer 20", b"begin 0 1 000102030405060708090a0b", b"raw 1 - -", 
     stun.stdin.flush()
     print(line.decode(), "->", stun.stdout.readline().decode(), end="")
 stun.stdin.close()
-print(stun.stdout.read().decode(), "ends with", stun.wait())
+print(stun.stdout.read().decode() + "ends with", stun.wait())
