@@ -18,6 +18,9 @@ terminal() { python3 tests/program/terminal.py "$@"; }
 # a call whose standard input breaks off with an error
 breaking() { python3 tests/program/breaking.py "$@"; }
 
+# a call whose standard output has room for so many bytes
+narrow() { python3 tests/program/narrow.py "$@"; }
+
 # A tree with our launcher in $work/tree, and a program that is a line of sh; rt, which it asks for a proof, is a line of sh too.
 tree() {
     mkdir -p "$work/bin" "$work/tree/crates/stun/src" "$work/tree/target/bin" "$work/tree/tools"
