@@ -7,6 +7,9 @@ import tty
 
 ours, theirs = pty.openpty()
 tty.setraw(theirs)
-os.write(theirs, sys.stdin.buffer.read())
+given = sys.stdin.buffer.read()
+ran = subprocess.Popen(sys.argv[1:], stdin=ours)
+while given:
+    given = given[os.write(theirs, given):]
 os.close(theirs)  # behind what was written, reading fails then
-sys.exit(subprocess.run(sys.argv[1:], stdin=ours).returncode)
+sys.exit(ran.wait())
