@@ -28,7 +28,7 @@ tree() {
     touch "$work/tree/crates.txt" "$work/tree/crates/stun/src/main.rt"
     printf '#!/bin/sh\n%s\n' "$1" >"$work/tree/target/bin/stun"
     printf '#!/bin/sh\necho "rt $* in $(basename "$PWD")" >>"$work/asked"\n%s\n' "${2-:}" >"$work/bin/rt"
-    printf '#!/bin/sh\nprintf "%%s\\n" "$work/tree/target/bin/$1" "a word"\n' >"$work/tree/tools/words"
+    printf '#!/bin/sh\nprintf "%%s\\n" "$(command -v env)" "$work/tree/target/bin/$1" "a word"\n' >"$work/tree/tools/words"
     chmod +x "$work/tree/target/bin/stun" "$work/bin/rt" "$work/tree/tools/words"
     export work PATH="$work/bin:$PATH"
     cd "$work/tree" || exit
