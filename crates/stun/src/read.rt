@@ -2,7 +2,7 @@
 ghost use mathlib.Core.Path.{_≡_};
 ghost use Prim.Native.Nat.{min};
 ghost use Rattle.rfc5389.specs.Rows.{rfc5389};
-ghost use Rattle.message.specs.Reading.{readingOf, numberOf};
+ghost use Rattle.message.specs.Reading.{readingSaid, readingOf};
 use crate::answers::MOST;
 use crate::answers::minus;
 use crate::answers::part;
@@ -177,7 +177,7 @@ fn refused(d: &[u8], total: u64, n: u8, colour: bool) {
 
 // Answers what to end with.
 fn datagram(d: &[u8], total: u64, colour: bool) -> u8
-    ensures { λ r. ⌜ r ≡ min 1 (numberOf (readingOf rfc5389 (now (d .entry)) .answer)) ⌝ }
+    ensures { λ r. ⌜ r ≡ min 1 (readingSaid (readingOf rfc5389 (now (d .entry))) .number) ⌝ }
 {
     let r = message::read(d);
     let id = r.id;
