@@ -2,10 +2,10 @@
 use Prim.Native.Nat.{ℕ}
 use mathlib.Core.List.{List}
 use mathlib.Core.Path.{_≡_, refl, sym, ap, _∙_}
-use Rattle.rfc5389.specs.Rows.{rfc5389}
-use Rattle.rfc5389.specs.Fault.{ruleOf}
+use Rattle.rfc5389.specs.Rows.{rfc5389, look, ruleIn, ruleOf}
+use Rattle.rfc5389.specs.declared.Entry.{Entry}
 use Rattle.rfc5389.specs.declared.Rule.{Rule}
-use Rattle.rfc5389.specs.declared.Rule.the-variants.{Address, Text, Code, Types, Plain}
+use Rattle.rfc5389.specs.declared.Rule.the-variants.{Address, XorAddress, Text, Code, Types, Plain}
 use Rattle.begin.specs.declared.Written as begin
 use Rattle.append.specs.Append.{answer, appended}
 use Rattle.append_typed.specs.Typed.{typed, refusal, textNumber}
@@ -17,13 +17,16 @@ use Rattle.c_append.specs.Said.{textBy, textFault}
 
 -- a text's fault is that of the library's call for each of its four kinds
 same-fault : (q : TextKind) (v : List ℕ) → textFault (textNumber q) v ≡ refusal rfc5389 (textNumber q) v
-unfolding textFault textBy ruleOf
+unfolding textFault textBy look ruleIn
 same-fault Username v = refl
 same-fault Realm v = refl
 same-fault Nonce v = refl
 same-fault Software v = refl
 
-module _ (k : ℕ) (v : List ℕ) {q : Rule} (e : q ≡ ruleOf k) where
+module _ (k : ℕ) (v : List ℕ) {q : Rule} {x : Entry} (w : x ≡ look rfc5389 k) (u : q ≡ ruleIn x) where
+  e : q ≡ ruleOf rfc5389 k
+  e = u ∙ ap ruleIn w
+
   by-rule : (x : Rule) → q ≡ x → textBy x k v ≡ textFault k v
   unfolding textFault
   by-rule x f = ap (λ (y : Rule). textBy y k v) (sym f ∙ e)
@@ -35,6 +38,10 @@ module _ (k : ℕ) (v : List ℕ) {q : Rule} (e : q ≡ ruleOf k) where
   pub address : q ≡ Address → 23 ≡ textFault k v
   unfolding textBy
   address f = by-rule Address f
+
+  pub xor-address : q ≡ XorAddress → 23 ≡ textFault k v
+  unfolding textBy
+  xor-address f = by-rule XorAddress f
 
   pub code : q ≡ Code → 23 ≡ textFault k v
   unfolding textBy

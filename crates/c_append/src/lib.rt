@@ -34,10 +34,11 @@ pub extern "C" fn cratehoist_append_value(
 fn text_fault(kind: u16, text: &[u8]) -> u8
     ensures { λ r. ⌜ r ≡ textFault kind (now (text .entry)) ⌝ }
 {
-    let rule = rfc5389::rule_of(kind);
+    let rule = rfc5389::entry_rule(rfc5389::entry_of(kind));
     match rule {
         Rule::Text => append_typed::refusal_of(kind, text),
         Rule::Address => 23,
+        Rule::XorAddress => 23,
         Rule::Code => 23,
         Rule::Types => 23,
         Rule::Plain => 23,

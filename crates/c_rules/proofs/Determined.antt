@@ -3,8 +3,8 @@ use Prim.Native.Nat.{ℕ}
 use mathlib.Core.List.{List}
 use Rattle.base.specs.DeterminedLaws.{by}
 use Rattle.base.specs.Determined.{Determines}
-use Rattle.rfc5389.specs.Rows.{look, rfc5389}
-use Rattle.rfc5389.specs.Fault.{ruleOf, fault}
+use Rattle.rfc5389.specs.Rows.{look, rfc5389, ruleOf}
+use Rattle.rfc5389.specs.Fault.{fault}
 use Rattle.fingerprint.specs.Fingerprint.{printed}
 use Rattle.c_rules.specs.Said.{sized, ruled}
 use Rattle.c_rules.specs.declared.Sizes.{Sizes}
@@ -28,7 +28,7 @@ pub determined-cratehoist-rule : Determines rule-kinds.ps rule-kinds.r {I = ℕ}
     (λ κs a. a .0) (λ κs z e. z)
 determined-cratehoist-rule =
     by rule-kinds.ps rule-kinds.r rule-reads.Asked rule-reads.Learnt _ _
-    (λ x. ruled (ruleOf x))
+    (λ x. ruled (ruleOf rfc5389 x))
     (λ κs a y d i q. q)
 
 pub determined-cratehoist-fault : Determines fault-kinds.ps fault-kinds.r {I = ℕ × List ℕ} {A = ℕ} fault-reads.Asked fault-reads.Learnt

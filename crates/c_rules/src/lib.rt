@@ -1,7 +1,7 @@
 // What C calls: the list of types, what is wrong with a value, and the sum of a FINGERPRINT.
 ghost use mathlib.Core.Path.{_≡_};
-ghost use Rattle.rfc5389.specs.Rows.{look, rfc5389};
-ghost use Rattle.rfc5389.specs.Fault.{ruleOf, fault};
+ghost use Rattle.rfc5389.specs.Rows.{look, rfc5389, ruleOf};
+ghost use Rattle.rfc5389.specs.Fault.{fault};
 ghost use Rattle.fingerprint.specs.Fingerprint.{printed};
 ghost use Rattle.c_rules.specs.Said.{sized, ruled};
 use rfc5389::Rule;
@@ -18,14 +18,18 @@ pub struct Sizes {
 pub extern "C" fn cratehoist_sizes_of(kind: u16) -> Sizes
     ensures { λ r. ⌜ r ≡ sized (look rfc5389 kind) ⌝ }
 {
-    let sizes = rfc5389::sizes_of(kind);
+    let sizes = rfc5389::entry_of(kind);
     match sizes {
-        rfc5389::Sizes::Between { least, greatest } => Sizes {
+        rfc5389::Entry::Listed {
+            least,
+            greatest,
+            rule: _,
+        } => Sizes {
             known: true,
             least,
             greatest,
         },
-        rfc5389::Sizes::Unknown => Sizes {
+        rfc5389::Entry::Unknown => Sizes {
             known: false,
             least: 0,
             greatest: 0,
@@ -36,12 +40,13 @@ pub extern "C" fn cratehoist_sizes_of(kind: u16) -> Sizes
 // 0 plain, 1 an address, 2 text, 3 an error code, 4 a list of types.
 #[no_mangle]
 pub extern "C" fn cratehoist_rule(kind: u16) -> u8
-    ensures { λ r. ⌜ r ≡ ruled (ruleOf kind) ⌝ }
+    ensures { λ r. ⌜ r ≡ ruled (ruleOf rfc5389 kind) ⌝ }
 {
-    let rule = rfc5389::rule_of(kind);
+    let rule = rfc5389::entry_rule(rfc5389::entry_of(kind));
     match rule {
         Rule::Plain => 0,
         Rule::Address => 1,
+        Rule::XorAddress => 1,
         Rule::Text => 2,
         Rule::Code => 3,
         Rule::Types => 4,

@@ -1,29 +1,34 @@
-use Rattle.rfc5389.specs.SaidLaws.{sizes-one, rule-one}
-use Rattle.c_rules.proofs.Sayings.{plain, address, text, code, types}
+use Rattle.rfc5389.specs.SaidLaws.{entry-one, rule-one}
+use Rattle.c_rules.proofs.Sayings.{plain, address, xor-address, text, code, types}
 use borrow.Author.Needs.{needs}
 use Rattle.c_rules.proofs.cratehoist_rule.Statement.{statement}
 use Rattle.c_rules.proofs.cratehoist_rule.Tie as tie
 
 returns : tie.Need-returns
-returns c = search (plain, sizes-one, rule-one)
+returns c = search (plain, address, xor-address, text, code, types, entry-one, rule-one)
 
 returns-2 : tie.Need-returns-2
-returns-2 c = search (address, sizes-one, rule-one)
+returns-2 c = search (plain, address, xor-address, text, code, types, entry-one, rule-one)
 
 returns-3 : tie.Need-returns-3
-returns-3 c = search (text, sizes-one, rule-one)
+returns-3 c = search (plain, address, xor-address, text, code, types, entry-one, rule-one)
 
 returns-4 : tie.Need-returns-4
-returns-4 c = search (code, sizes-one, rule-one)
+returns-4 c = search (plain, address, xor-address, text, code, types, entry-one, rule-one)
 
 returns-5 : tie.Need-returns-5
-returns-5 c = search (types, sizes-one, rule-one)
+returns-5 c = search (plain, address, xor-address, text, code, types, entry-one, rule-one)
+
+returns-6 : tie.Need-returns-6
+returns-6 c = search (plain, address, xor-address, text, code, types, entry-one, rule-one)
 
 pub cratehoist-rule-spec : {M : Type 1} → statement M
 cratehoist-rule-spec =
     tie.close
     (tie.spec
     (λ c κs. search needs)
+    (λ c κs. search needs)
+    (λ c. search needs)
     (λ c. search needs)
     (λ c. search needs)
     (λ c. search needs)
@@ -33,4 +38,5 @@ cratehoist-rule-spec =
     returns-2
     returns-3
     returns-4
-    returns-5)
+    returns-5
+    returns-6)
