@@ -4,10 +4,10 @@ use mathlib.Core.List.{List, []}
 use mathlib.Core.Bool.{Bool, true, false}
 use mathlib.Core.Path.{_≡_, refl, sym, ap, _∙_}
 use native.Mathlib.Omega.{arith}
-use borrow.Author.Tests.{eq-eqb, ne-eqb, eqb-true, ltb-false}
+use borrow.Author.Tests.{eq-eqb, ne-eqb, ltb-false}
 use lib.ListN.{length, getD, take, drop, length-drop}
 use lib.Seq.{take-all}
-use lib.Dec.{eqb, ltb}
+use lib.Dec.{ltb}
 use Rattle.base.specs.Choice.{pick}
 use Rattle.unicode.specs.Utf8.{isUtf8}
 use Rattle.rfc5389.specs.Rows.{look, rfc5389, ruleIn, ruleOf}
