@@ -41,6 +41,7 @@ pub const CUT: u8 = 2;
 // What a rule asks of a value besides its size.
 pub const RULE_PLAIN: u8 = 0;
 pub const RULE_ADDRESS: u8 = 1;
+pub const RULE_XOR_ADDRESS: u8 = 1;
 pub const RULE_TEXT: u8 = 2;
 pub const RULE_CODE: u8 = 3;
 pub const RULE_TYPES: u8 = 4;
