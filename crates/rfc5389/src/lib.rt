@@ -24,7 +24,9 @@ pub struct Row {
     pub rule: Rule,
 }
 
-pub const ROWS: [Row; 11] = [
+pub const KINDS: usize = 11;
+
+pub const ROWS: [Row; KINDS] = [
     Row {
         kind: 0x0001,
         least: 8,
@@ -108,7 +110,7 @@ pub fn entry_of(kind: u16) -> Entry
 {
     let rows = ROWS;
     let mut i = 0;
-    while i < 11 {
+    while i < KINDS {
         let row = rows[i];
         if row.kind == kind {
             let rule = row.rule;

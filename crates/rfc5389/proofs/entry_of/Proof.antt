@@ -1,6 +1,7 @@
 use Prim.Native.Nat.{_-_}
+use lib.ListN.{length}
 use mathlib.Core.Path.{ap}
-use Rattle.rfc5389.specs.Rows.{entrySaid}
+use Rattle.rfc5389.specs.Rows.{entrySaid, rfc5389}
 use Rattle.rfc5389.proofs.Looking.{Looking, start, turn, found, done}
 use borrow.Author.Needs.{needs}
 use Rattle.rfc5389.proofs.entry_of.Statement.{statement}
@@ -10,7 +11,7 @@ abbrev Inv-loop : tie.InvT-loop
 Inv-loop kind rows i₀ i = Looking rows kind i
 
 abbrev μ-loop : tie.MeasureT-loop
-μ-loop kind rows i₀ i = 11 - i
+μ-loop kind rows i₀ i = length rfc5389 - i
 
 loop-holds : tie.Need-loop-holds Inv-loop μ-loop
 loop-holds c = start _
