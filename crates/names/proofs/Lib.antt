@@ -1,2 +1,2 @@
-mod Others
+mod Looking
 mod Determined

@@ -2,7 +2,9 @@
 ghost use Prim.Native.Nat.{_-_, _≤_};
 ghost use lib.ListN.{length, take, drop};
 ghost use mathlib.Core.Path.{_≡_};
-ghost use Rattle.names.specs.Names.{named, attributeName, codeName, numberName, className, methodName};
+ghost use Rattle.names.specs.Names.{shown, attributeName, codeName, numberName, className, methodName};
+ghost use Rattle.names.specs.TableLaws.{nameFrom};
+use numbers::u16_at;
 use wire::method::Method;
 use wire::types::MessageClass;
 
@@ -12,10 +14,10 @@ pub struct Name {
     pub size: usize,
 }
 
-// The bytes from `a` to `e` as a name. The names of a table stand in one text, each told by its place there.
+// The bytes from `a` to `e` as a name.
 fn of(s: &[u8], a: usize, e: usize) -> Name
     requires { ⌜ (a ≤ e) × (e ≤ length (now s)) ⌝ }
-    ensures { λ r. ⌜ r ≡ named (take (e - a) (drop a (now (s .entry)))) ⌝ }
+    ensures { λ r. ⌜ r ≡ shown (take (e - a) (drop a (now (s .entry)))) ⌝ }
 {
     let mut text = [0u8; 32];
     buffers::put_bytes(&mut text, 0, &s[a..e]);
@@ -25,98 +27,76 @@ fn of(s: &[u8], a: usize, e: usize) -> Name
     }
 }
 
+fn wide(b: u8) -> usize
+    ensures { λ r. ⌜ r ≡ b ⌝ }
+{
+    b as usize
+}
+
+// A table is one text: of each name its number in two bytes, its size in one, and its letters.
+fn look(s: &[u8], n: u16) -> Name
+    ensures { λ r. ⌜ r ≡ shown (nameFrom 0 (now (s .entry)) n) ⌝ }
+{
+    let mut at = 0;
+    while 3 <= s.len() - at {
+        let size = wide(s[at + 2]);
+        if s.len() - at - 3 < size {
+            return of(s, 0, 0);
+        }
+        if u16_at(s, at) == n {
+            return of(s, at + 3, at + 3 + size);
+        }
+        at = at + 3 + size;
+    }
+    of(s, 0, 0)
+}
+
 // The name of an attribute type.
 pub fn attribute(kind: u16) -> Name
     ensures { λ r. ⌜ r ≡ attributeName kind ⌝ }
 {
-    let s: &[u8] =
-        b"MAPPED-ADDRESS|USERNAME|MESSAGE-INTEGRITY|ERROR-CODE|UNKNOWN-ATTRIBUTES|REALM|NONCE|XOR-MAPPED-ADDRESS|\
-        SOFTWARE|ALTERNATE-SERVER|FINGERPRINT";
-    match kind {
-        0x0001 => of(s, 0, 14),
-        0x0006 => of(s, 15, 23),
-        0x0008 => of(s, 24, 41),
-        0x0009 => of(s, 42, 52),
-        0x000A => of(s, 53, 71),
-        0x0014 => of(s, 72, 77),
-        0x0015 => of(s, 78, 83),
-        0x0020 => of(s, 84, 102),
-        0x8022 => of(s, 103, 111),
-        0x8023 => of(s, 112, 128),
-        0x8028 => of(s, 129, 140),
-        _ => of(s, 0, 0),
-    }
+    let table: &[u8] =
+        b"\x00\x01\x0EMAPPED-ADDRESS\x00\x06\x08USERNAME\x00\x08\x11MESSAGE-INTEGRITY\x00\x09\x0AERROR-CODE\
+        \x00\x0A\x12UNKNOWN-ATTRIBUTES\x00\x14\x05REALM\x00\x15\x05NONCE\x00\x20\x12XOR-MAPPED-ADDRESS\
+        \x80\x22\x08SOFTWARE\x80\x23\x10ALTERNATE-SERVER\x80\x28\x0BFINGERPRINT";
+    look(table, kind)
 }
 
 // What an error code means.
 pub fn code(n: u16) -> Name
     ensures { λ r. ⌜ r ≡ codeName n ⌝ }
 {
-    let s: &[u8] =
-        b"Try Alternate|Bad Request|Unauthorized|Unknown Attribute|Stale Nonce|Server Error";
-    match n {
-        300 => of(s, 0, 13),
-        400 => of(s, 14, 25),
-        401 => of(s, 26, 38),
-        420 => of(s, 39, 56),
-        438 => of(s, 57, 68),
-        500 => of(s, 69, 81),
-        _ => of(s, 0, 0),
-    }
+    let table: &[u8] = b"\x01\x2C\x0DTry Alternate\x01\x90\x0BBad Request\x01\x91\x0CUnauthorized\
+        \x01\xA4\x11Unknown Attribute\x01\xB6\x0BStale Nonce\x01\xF4\x0CServer Error";
+    look(table, n)
 }
 
 // What a number of docs/NUMBERS.md is called there.
 pub fn number(n: u8) -> Name
     ensures { λ r. ⌜ r ≡ numberName n ⌝ }
 {
-    let s: &[u8] =
-        b"all is well|too short|first bits not zero|no cookie|size and length disagree|attribute cut off|wrong size|\
-        no such address|no such error code|text not UTF-8|fingerprint differs|fingerprint too far back|\
-        no message to add to|no such method|value not allowed|wrong padding|message full|buffer too small|\
-        not signed|signature differs";
-    match n {
-        0 => of(s, 0, 11),
-        1 => of(s, 12, 21),
-        2 => of(s, 22, 41),
-        3 => of(s, 42, 51),
-        4 => of(s, 52, 76),
-        10 => of(s, 77, 94),
-        11 => of(s, 95, 105),
-        12 => of(s, 106, 121),
-        13 => of(s, 122, 140),
-        14 => of(s, 141, 155),
-        15 => of(s, 156, 175),
-        16 => of(s, 176, 200),
-        21 => of(s, 201, 221),
-        22 => of(s, 222, 236),
-        23 => of(s, 237, 254),
-        24 => of(s, 255, 268),
-        25 => of(s, 269, 281),
-        26 => of(s, 282, 298),
-        31 => of(s, 299, 309),
-        32 => of(s, 310, 327),
-        _ => of(s, 0, 0),
-    }
+    let table: &[u8] =
+        b"\x00\x00\x0Ball is well\x00\x01\x09too short\x00\x02\x13first bits not zero\x00\x03\x09no cookie\
+        \x00\x04\x18size and length disagree\x00\x0A\x11attribute cut off\x00\x0B\x0Awrong size\
+        \x00\x0C\x0Fno such address\x00\x0D\x12no such error code\x00\x0E\x0Etext not UTF-8\
+        \x00\x0F\x13fingerprint differs\x00\x10\x18fingerprint too far back\x00\x15\x14no message to add to\
+        \x00\x16\x0Eno such method\x00\x17\x11value not allowed\x00\x18\x0Dwrong padding\
+        \x00\x19\x0Cmessage full\x00\x1A\x10buffer too small\x00\x1F\x0Anot signed\
+        \x00\x20\x11signature differs";
+    look(table, n as u16)
 }
 
 pub fn class(c: MessageClass) -> Name
     ensures { λ r. ⌜ r ≡ className c ⌝ }
 {
-    let s: &[u8] = b"request|indication|success response|error response";
-    match c {
-        MessageClass::Request => of(s, 0, 7),
-        MessageClass::Indication => of(s, 8, 18),
-        MessageClass::SuccessResponse => of(s, 19, 35),
-        MessageClass::ErrorResponse => of(s, 36, 50),
-    }
+    let table: &[u8] =
+        b"\x00\x00\x07request\x00\x01\x0Aindication\x00\x02\x10success response\x00\x03\x0Eerror response";
+    look(table, c.as_u16())
 }
 
 pub fn method(m: Method) -> Name
     ensures { λ r. ⌜ r ≡ methodName (m .code) ⌝ }
 {
-    let s: &[u8] = b"Binding";
-    if m.code == 1 {
-        return of(s, 0, 7);
-    }
-    of(s, 0, 0)
+    let table: &[u8] = b"\x00\x01\x07Binding";
+    look(table, m.code)
 }

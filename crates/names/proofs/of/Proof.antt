@@ -1,4 +1,4 @@
-use Rattle.names.proofs.Others.{at-front}
+use Rattle.names.proofs.Looking.{at-front}
 use borrow.Author.Needs.{needs}
 use Rattle.names.proofs.of.Statement.{statement}
 use Rattle.names.proofs.of.Tie as tie
