@@ -1,31 +1,26 @@
 -- A FINGERPRINT appended to a whole message leaves it whole, with one attribute more; a MESSAGE-INTEGRITY appended is the digest of what stands before it.
 use Prim.Native.Nat.{ℕ, _+_, _-_, _≤_, _<_}
 use mathlib.Core.List.{List, [], _∷_, _++_, append-nil}
-use mathlib.Core.Bool.{Bool, true, false}
-use mathlib.Core.Path.{_≡_, refl, sym, ap, _∙_}
+use mathlib.Core.Bool.{Bool}
+use mathlib.Core.Path.{_≡_, refl, sym, ap, _∙_, subst}
 use native.Mathlib.Omega.{arith}
 use native.Mathlib.Nat.{add-zero}
-use borrow.Author.Tests.{eqb-true, eq-eqb, le-ltb}
-use lib.ListN.{length, take, drop, length-append}
+use borrow.Author.Tests.{le-ltb}
+use lib.ListN.{length, take, length-append}
 use lib.Seq.{take-append-add, take-append-le, take-take}
 use lib.Bits.{bitXor}
-use lib.Dec.{eqb}
 use Rattle.base.specs.Choice.{pick}
 use Rattle.base.specs.Bytes.{Bytes}
 use Rattle.base.specs.SameLaws.{same-refl}
 use Rattle.base.specs.Same.{same}
 use Rattle.base.specs.Laid.{laid}
-use Rattle.numbers.specs.Numbers.{be16, two, four, withLength}
-use Rattle.wire.specs.TypeNumber.{typeOf, classOf, methodOf, classNumber, classNumbered}
+use Rattle.numbers.specs.Numbers.{two, four, withLength}
+use Rattle.wire.specs.TypeNumber.{typeOf, classNumber}
 use Rattle.wire.specs.declared.method.Method.{Method}
 use Rattle.wire.specs.declared.types.MessageClass.{MessageClass}
-use Rattle.attribute.specs.Attribute.{Attr, stop, parse, allBytes}
+use Rattle.attribute.specs.Attribute.{Attr, allBytes}
 use Rattle.attribute.specs.Attribute as one
-use Rattle.attribute.specs.BodyLaws.{parse-none}
-use Rattle.attribute.specs.RoundTripLaws.{before}
-use Rattle.attribute.specs.RoundTripLaws as attributes
-use Rattle.attribute.specs.Scan.{scan, scanned}
-use Rattle.attribute.specs.declared.Scan.the-variants.{Passed, Fault}
+use Rattle.attribute.specs.Scan.{Pass}
 use Rattle.crc.specs.Crc.{crc32Of}
 use Rattle.fingerprint.specs.Fingerprint.{fingerprintAt}
 use Rattle.hmac.specs.Hmac.{hmacOf}
@@ -35,7 +30,10 @@ use Rattle.rfc5389.specs.declared.Row.{Row}
 use Rattle.rfc5389.specs.Fault.{ruleFault, entryFault, fault}
 use Rattle.fingerprints.specs.Fingerprints.{printFault, printFaults}
 use Rattle.message.specs.Reading.{valueFaults, readingOf}
+use Rattle.message.specs.Whole.{attributes}
+use Rattle.message.specs.WholeLaws.{Parts, parts, parts-told, told-whole}
 use Rattle.message.specs.declared.Answer.the-variants.{Whole}
+use Rattle.message.specs.declared.Reading.{Reading}
 use Rattle.begin.specs.Begin.{headBytes}
 use Rattle.begin.specs.declared.Written.the-variants.{Total}
 use Rattle.plan.specs.Plan.{sizeOf}
@@ -45,36 +43,19 @@ use Rattle.append.specs.Append.{answer, appended}
 use Rattle.append.specs.AppendLaws.{total-goes}
 use Rattle.integrity.specs.Integrity.{integrityAt}
 use Rattle.seal.specs.Seal.{fingerprint, integrity}
-use Rattle.round_trip.specs.Message.{Message, bytesOf, Shaped, with, held}
+use Rattle.round_trip.specs.Message.{Message, bytesOf, messageOf, Shaped, with, held, Right, wholeWith}
 use Rattle.round_trip.specs.FrontLaws.{head-length, head-again, all-append}
-use Rattle.round_trip.specs.Bijection.{header-again, body-again, t-again}
-use Rattle.round_trip.specs.Whole.{Passes, passes, passes-whole}
+use Rattle.round_trip.specs.Bijection.{read-written}
+use Rattle.round_trip.specs.Whole.{right-read}
 use Rattle.round_trip.specs.Appending.{held-shaped, held-bytes, held-length, with-shaped, appended-bytes}
-
--- the attributes of a message's bytes, as one body
-body-is : (m : Message) → Shaped m → parse 0 (drop 20 (bytesOf m)) ≡ before (m .attributes) (stop [])
-body-is m w =
-    ap (parse 0) (body-again m w ∙ sym (append-nil (allBytes (m .attributes)))) ∙ attributes.read-written (m .attributes) [] (w .attributes)
-    ∙ ap (before (m .attributes)) parse-none
 
 -- attributes that pass, and one more that does, where a pass before is a pass after
 module _ (f g : ℕ → Attr → ℕ) (a : Attr) (l : ℕ) (agree : (q : ℕ) (x : Attr) → 20 ≤ q → q ≤ l → f q x ≡ 0 → g q x ≡ 0) (last : g l a ≡ 0) where
-  scan-one : (n p : ℕ) (xs : List Attr) {k : ℕ} → 20 ≤ p → p + length (allBytes xs) ≡ l → scan f n p (before xs (stop [])) ≡ Passed k
-      → scan g n p (before (xs ++ (a ∷ [])) (stop [])) ≡ Passed (k + 1)
-  unfolding scan
-  scan-one n p [] {k} h e s =
-      let i : g p a ≡ 0 = ap (λ (q : ℕ). g q a) (sym (add-zero p) ∙ e) ∙ last in
-      let j : n ≡ k = cc in
-      simp (eq-eqb (g p a) 0 i) (ap (λ (x : ℕ). Passed (x + 1)) j)
-  scan-one n p (x ∷ xs) {k} h e s =
-      go (eqb (f p x) 0) refl s (λ r. scan-one (n + 1) (p + length (one.bytesOf x)) xs (omega arith) (omega (arith, length-append (one.bytesOf x) (allBytes xs))) r)
-    where
-      go : (b : Bool) → eqb (f p x) 0 ≡ b → pick b (scan f (n + 1) (p + length (one.bytesOf x)) (before xs (stop []))) (Fault (f p x) p) ≡ Passed k
-          → (scan f (n + 1) (p + length (one.bytesOf x)) (before xs (stop [])) ≡ Passed k
-          → scan g (n + 1) (p + length (one.bytesOf x)) (before (xs ++ (a ∷ [])) (stop [])) ≡ Passed (k + 1))
-          → scan g n p (before (x ∷ xs ++ (a ∷ [])) (stop [])) ≡ Passed (k + 1)
-      go true q r ih = simp (eq-eqb (g p x) 0 (agree p x h (omega arith) (eqb-true (f p x) 0 q))) (ih r)
-      go false q r ih = let z : _≡_ {A = ℕ} 0 1 = cc in absurd (omega arith)
+  pass-one : (p : ℕ) (xs : List Attr) → 20 ≤ p → p + length (allBytes xs) ≡ l → Pass f p xs → Pass g p (xs ++ (a ∷ []))
+  pass-one p [] h e s = (ap (λ (q : ℕ). g q a) (sym (add-zero p) ∙ e) ∙ last, tt)
+  pass-one p (x ∷ xs) h e s =
+      let m : length (one.bytesOf x ++ allBytes xs) ≡ length (one.bytesOf x) + length (allBytes xs) = length-append (one.bytesOf x) (allBytes xs) in
+      (agree p x h (omega arith) (s .0), pass-one (p + length (one.bytesOf x)) xs (omega arith) (omega arith) (s .1))
 
 -- the bytes before q with another length, of a datagram with the header of type t
 front-with : (t n v : ℕ) (id s : List ℕ) (q : ℕ) → length id ≡ 12 → 20 ≤ q
@@ -137,28 +118,37 @@ module _ (d : List ℕ) {t : ℕ} (h : Bytes d) (a : Attr) (small : a .kind < 65
   unfolding printFaults printFault
   print-agree q x l k z = rw (same-sum q l k) z
 
-  scanned-one : (f g : ℕ → Attr → ℕ) {k : ℕ} → ((q : ℕ) (x : Attr) → 20 ≤ q → q ≤ sizeOf d → f q x ≡ 0 → g q x ≡ 0) → g (sizeOf d) a ≡ 0
-      → scanned f (bytesOf M) ≡ Passed k → scanned g (bytesOf N) ≡ Passed (k + 1)
-  unfolding scanned
-  scanned-one f g agree last s =
-      ap (scan g 0 20) (body-is N wN)
-      ∙ scan-one f g a (sizeOf d) agree last 0 20 (M .attributes) (omega arith) (size d h there a) (sym (ap (scan f 0 20) (body-is M wM)) ∙ s)
+  -- the attributes of the message before, as the reader finds them
+  before : attributes (bytesOf M) ≡ M .attributes
+  unfolding messageOf
+  before = ap (λ (x : Message). x .attributes) (read-written M wM)
+
+  passes : (f g : ℕ → Attr → ℕ) → ((q : ℕ) (x : Attr) → 20 ≤ q → q ≤ sizeOf d → f q x ≡ 0 → g q x ≡ 0) → g (sizeOf d) a ≡ 0
+      → Pass f 20 (attributes (bytesOf M)) → Pass g 20 (N .attributes)
+  passes f g agree last s =
+      pass-one f g a (sizeOf d) agree last 20 (M .attributes) (omega arith) (size d h there a) (subst (λ (xs : List Attr). Pass f 20 xs) before s)
 
   pub kept : (rows : List Row) {c : MessageClass} {m : Method} {n : ℕ} → valueFaults rows (sizeOf d) a ≡ 0 → printFaults (bytesOf N) (sizeOf d) a ≡ 0
       → readingOf rows (take (sizeOf d) d) .answer ≡ Whole c m n → readingOf rows (take t (appended d 0 a)) .answer ≡ Whole c m (n + 1)
+  unfolding messageOf
   kept rows {c} {m} {n} value-last print-last w =
-      let p : Passes rows (bytesOf M) c m n = passes rows (bytesOf M) (ap (λ (x : List ℕ). readingOf rows x .answer) (held-bytes d h there) ∙ w) in
-      let k : be16 (bytesOf M) 0 ≡ be16 (bytesOf N) 0 = t-again M wM ∙ sym (t-again N wN) in
+      let e′ : readingOf rows (bytesOf M) .answer ≡ Whole c m n = ap (λ (x : List ℕ). readingOf rows x .answer) (held-bytes d h there) ∙ w in
+      let p : Parts rows (bytesOf M) = parts rows (bytesOf M) (told-whole rows (bytesOf M) e′) in
+      let r : Right rows N =
+      record {
+        shape = wN;
+        values = passes (valueFaults rows) (valueFaults rows) (λ q x l k z. z) value-last (p .values);
+        prints = passes (printFaults (bytesOf M)) (printFaults (bytesOf N)) print-agree print-last (p .prints);
+      }
+      in
+      let x : wholeWith (messageOf (bytesOf M)) .answer ≡ Whole c m n = sym (ap (λ (y : Reading). y .answer) (parts-told rows (bytesOf M) p)) ∙ e′ in
+      let y : wholeWith M .answer ≡ Whole c m n = ap (λ (z : Message). wholeWith z .answer) (sym (read-written M wM)) ∙ x in
+      let more : length (M .attributes ++ (a ∷ [])) ≡ length (M .attributes) + 1 = length-append (M .attributes) (a ∷ []) in
+      let many : length (M .attributes) ≡ n = cc in
+      let class : M .class ≡ c = cc in
+      let method : M .method ≡ m = cc in
       rw (appended-bytes d 0 a h small e)
-      (passes-whole rows (bytesOf N)
-      (record {
-        header = header-again N wN;
-        class = p .class ∙ ap (λ (x : ℕ). classNumbered (classOf x)) k;
-        method = p .method ∙ ap (λ (x : ℕ). record { code = methodOf x }) k;
-        count = p .count + 1;
-        values = scanned-one (valueFaults rows) (valueFaults rows) (λ q x l k z. z) value-last (p .values);
-        prints = scanned-one (printFaults (bytesOf M)) (printFaults (bytesOf N)) print-agree print-last (p .prints);
-      }))
+      (ap (λ (y : Reading). y .answer) (right-read rows N r) ∙ rw (more, many, class, method))
 
 -- SEALED: with a FINGERPRINT appended, what was whole is whole, with one attribute more
 module _ (d : List ℕ) {t : ℕ} (h : Bytes d) (e : answer d 0 (fingerprint d) ≡ Total t) where

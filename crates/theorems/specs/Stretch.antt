@@ -1,7 +1,7 @@
 -- DEMAND 3, of the definition of whole: two whole datagrams of equal length, each with a FINGERPRINT as its last attribute, that agree
 -- outside four neighbouring places are equal. Under any list of types; nothing is assumed but that elements are bytes.
 use Prim.Native.Nat.{ℕ, _+_, _-_, _≤_, _<_}
-use mathlib.Core.List.{List, [], _∷_, _++_, append-assoc, append-nil}
+use mathlib.Core.List.{List, [], _∷_, _++_, append-nil}
 use mathlib.Core.Bool.{Bool, true, false}
 use mathlib.Core.Logic.{_⊎_}
 use mathlib.Core.Path.{_≡_, refl, sym, ap, _∙_}
@@ -28,6 +28,7 @@ use Rattle.attribute.specs.Scan.{Pass}
 use Rattle.fingerprints.specs.Fingerprints.{printFault, printFaults}
 use Rattle.message.specs.Whole.{Whole, attributes}
 use Rattle.message.specs.WholeLaws.{parts}
+use Rattle.round_trip.specs.FrontLaws.{all-append}
 use Rattle.theorems.specs.Ends.{Ends}
 
 -- the last of attributes that pass
@@ -50,10 +51,6 @@ right-print d p k v e f = far (ltb 65535 (p - 20 + 8)) (simp (eq-eqb k 0x8028 e)
     far : (b : Bool) → _≡_ {A = ℕ} (pick b 16 (pick (same v (four (fingerprintAt d p))) 0 15)) 0 → v ≡ four (fingerprintAt d p)
     far true g = absurd (omega arith)
     far false g = value (same v (four (fingerprintAt d p))) refl g
-
-all-append : (xs ys : List Attr) → allBytes (xs ++ ys) ≡ allBytes xs ++ allBytes ys
-all-append [] ys = refl
-all-append (x ∷ xs) ys = ap (λ (l : List ℕ). bytesOf x ++ l) (all-append xs ys) ∙ sym (append-assoc (bytesOf x) (allBytes xs) (allBytes ys))
 
 good-last : (ys : List Attr) (a : Attr) → Goods (ys ++ (a ∷ [])) → Good a
 good-last [] a g = g .0
