@@ -45,5 +45,5 @@ pub extern "C" fn cratehoist_same_digest(digest: Digest, bytes: &[u8]) -> bool
     ensures { λ r. ⌜ r ≡ same (digest .bytes) (now (bytes .entry)) ⌝ }
 {
     let own = digest.bytes;
-    digests::same_digest(own, bytes)
+    hmac::digests::same_digest(own, bytes)
 }

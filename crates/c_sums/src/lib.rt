@@ -36,5 +36,5 @@ pub extern "C" fn cratehoist_is_utf8(bytes: &[u8]) -> bool
 pub extern "C" fn cratehoist_code_points(bytes: &[u8]) -> usize
     ensures { λ r. ⌜ r ≡ points (now (bytes .entry)) ⌝ }
 {
-    points::code_points(bytes)
+    utf8::points::code_points(bytes)
 }

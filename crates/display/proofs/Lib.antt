@@ -1,3 +1,4 @@
+mod Escaping
 mod Blaming
 mod Runs
 mod Determined

@@ -1,3 +1,4 @@
+pub mod Escape
 pub mod Span
 pub mod Blame
 pub mod Zeros

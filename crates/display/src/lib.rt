@@ -6,6 +6,8 @@ ghost use Rattle.display.specs.Blame.{within, inAttribute, blamed};
 ghost use Rattle.display.specs.Zeros.{leading, betterOf, longest};
 use numbers::u16_at;
 
+pub mod escape;
+
 // So many places from one on.
 pub struct Span {
     pub at: usize,

@@ -10,6 +10,17 @@ use Rattle.hmac.proofs.hmac.Kinds as hmac
 use Rattle.hmac.proofs.hmac.Reads as hmac-reads
 use Rattle.hmac.proofs.hmac_front.Kinds as front
 use Rattle.hmac.proofs.hmac_front.Reads as front-reads
+use mathlib.Core.Bool.{Bool}
+use Rattle.base.specs.Same.{same}
+use Rattle.hmac.proofs.digests.same_digest.Kinds as same-digest
+use Rattle.hmac.proofs.digests.same_digest.Reads as same-digest-reads
+
+pub determined-same-digest : Determines same-digest.ps same-digest.r {I = List ℕ × List ℕ} {A = Bool} same-digest-reads.Asked same-digest-reads.Learnt
+    (λ κs a. (a .0, a .1 .0 .now)) (λ κs z e. z)
+determined-same-digest =
+    by same-digest.ps same-digest.r same-digest-reads.Asked same-digest-reads.Learnt _ _
+    (λ x. same (x .0) (x .1))
+    (λ κs a y d i q. q)
 
 pub determined-hmac : Determines hmac.ps hmac.r {I = List ℕ × List ℕ} {A = List ℕ} hmac-reads.Asked hmac-reads.Learnt
     (λ κs a. (a .0 .now, a .1 .0 .now)) (λ κs z e. z)

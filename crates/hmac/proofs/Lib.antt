@@ -1,3 +1,4 @@
+pub mod Comparison
 pub mod Keys
 pub mod Front
 pub mod Determined

@@ -11,6 +11,8 @@ ghost use Rattle.numbers.specs.Numbers.{withLength};
 ghost use Rattle.hmac.specs.Hmac as spec;
 use compression::State;
 
+pub mod digests;
+
 // The key as one block.
 fn key_block(k: &[u8]) -> [u8; 64]
     ensures { λ r. ⌜ r ≡ spec.keyBlock (now (k .entry)) ⌝ }

@@ -16,7 +16,7 @@ fn compare(d: &[u8], key: &[u8], at: usize, size: usize) -> u8
 {
     let digest = hmac::hmac_front(key, d, at, (at - 20 + 24) as u16);
     let value = at + 4;
-    if digests::same_digest(digest, &d[value..value + size]) {
+    if hmac::digests::same_digest(digest, &d[value..value + size]) {
         return 0;
     }
     32

@@ -89,7 +89,7 @@ fn ordinary(b: u8) {
 }
 
 fn character(before: u8, b: u8, after: u8) {
-    if escape::is_escaped(before, b, after) {
+    if display::escape::is_escaped(before, b, after) {
         say(b"\\x");
         word(b as u64, 2);
         return;

@@ -1,4 +1,5 @@
+pub mod Count
+pub mod Determined
 pub mod Tails
 pub mod Rows
 pub mod Walk
-pub mod Determined

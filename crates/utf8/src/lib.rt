@@ -8,6 +8,8 @@ ghost use lib.Dec.{leb};
 ghost use Rattle.unicode.specs.Utf8.{_to_, UTF8-tail, isUtf8};
 ghost use Rattle.utf8.specs.Places.{widthAt, behindAt};
 
+pub mod points;
+
 // Whether the byte at a place is one from `lo` to `hi`.
 fn right(s: &[u8], i: usize, lo: u8, hi: u8) -> bool
     requires { ⌜ i < length (now s) ⌝ }

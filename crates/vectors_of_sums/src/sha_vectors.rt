@@ -26,7 +26,7 @@ fn numbered(name: &[u8], n: usize, d: [u8; 20]) {
 
 fn agree(name: &[u8], d: [u8; 20], s: &[u8]) {
     io::write_all(1, name);
-    if digests::same_digest(d, s) {
+    if hmac::digests::same_digest(d, s) {
         io::write_all(1, b" yes\n");
     } else {
         io::write_all(1, b" no\n");

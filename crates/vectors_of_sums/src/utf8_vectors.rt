@@ -36,7 +36,7 @@ fn text(name: &[u8], s: &[u8]) {
     io::write_all(STDOUT_FILENO, b"utf8 ");
     io::write_all(STDOUT_FILENO, name);
     io::write_all(STDOUT_FILENO, b"_points ");
-    io::print_hex(STDOUT_FILENO, points::code_points(s) as u64, 1);
+    io::print_hex(STDOUT_FILENO, utf8::points::code_points(s) as u64, 1);
     io::write_all(STDOUT_FILENO, b"\n");
 }
 

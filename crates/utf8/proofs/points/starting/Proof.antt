@@ -1,8 +1,8 @@
 use native.Mathlib.Omega.{arith}
-use Rattle.points.proofs.Count.{below, tail, above}
+use Rattle.utf8.proofs.Count.{below, tail, above}
 use borrow.Author.Needs.{needs}
-use Rattle.points.proofs.starting.Statement.{statement}
-use Rattle.points.proofs.starting.Tie as tie
+use Rattle.utf8.proofs.points.starting.Statement.{statement}
+use Rattle.utf8.proofs.points.starting.Tie as tie
 
 returns : tie.Need-returns
 returns c = search (below)

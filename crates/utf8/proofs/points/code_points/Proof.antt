@@ -1,10 +1,10 @@
-use Rattle.points.proofs.Count.{Counted, start, at-most, turn, done}
+use Rattle.utf8.proofs.Count.{Counted, start, at-most, turn, done}
 use lib.ListN.{length}
 use native.Mathlib.Omega.{arith}
 use Prim.Native.Nat.{_-_}
 use borrow.Author.Needs.{needs}
-use Rattle.points.proofs.code_points.Statement.{statement}
-use Rattle.points.proofs.code_points.Tie as tie
+use Rattle.utf8.proofs.points.code_points.Statement.{statement}
+use Rattle.utf8.proofs.points.code_points.Tie as tie
 
 abbrev Inv-loop : tie.InvT-loop
 Inv-loop s n₀ i₀ n i = Counted s n i

@@ -1,6 +1,6 @@
 // Which bytes of a text a person is shown by their numbers.
 ghost use mathlib.Core.Path.{_≡_};
-ghost use Rattle.escape.specs.Escape.{high, escaped};
+ghost use Rattle.display.specs.Escape.{high, escaped};
 
 fn is_high(b: u8) -> bool
     ensures { λ r. ⌜ r ≡ high b ⌝ }

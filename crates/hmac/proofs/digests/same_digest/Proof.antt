@@ -1,9 +1,9 @@
 use native.Mathlib.Omega.{arith}
 use borrow.Author.Needs.{needs}
 use Prim.Native.Nat.{_-_}
-use Rattle.digests.proofs.Comparison.{Comparing, comparing-start, comparing-turn, comparing-done, sizes-differ}
-use Rattle.digests.proofs.same_digest.Statement.{statement}
-use Rattle.digests.proofs.same_digest.Tie as tie
+use Rattle.hmac.proofs.Comparison.{Comparing, comparing-start, comparing-turn, comparing-done, sizes-differ}
+use Rattle.hmac.proofs.digests.same_digest.Statement.{statement}
+use Rattle.hmac.proofs.digests.same_digest.Tie as tie
 
 abbrev Inv-loop : tie.InvT-loop
 Inv-loop b a differing₀ i₀ differing i = Comparing a b differing i

@@ -1,7 +1,7 @@
-use Rattle.escape.proofs.Escaping.{control, delete, first, second, neither}
+use Rattle.display.proofs.Escaping.{control, delete, first, second, neither}
 use borrow.Author.Needs.{needs}
-use Rattle.escape.proofs.is_escaped.Statement.{statement}
-use Rattle.escape.proofs.is_escaped.Tie as tie
+use Rattle.display.proofs.escape.is_escaped.Statement.{statement}
+use Rattle.display.proofs.escape.is_escaped.Tie as tie
 
 returns : tie.Need-returns
 returns c = search (control)

@@ -4,7 +4,7 @@ use mathlib.Core.Bool.{Bool, true, false}
 use mathlib.Core.Path.{_≡_}
 use borrow.Author.Tests.{eq-eqb, ne-eqb, lt-ltb, le-ltb}
 use lib.Dec.{ltb}
-use Rattle.escape.specs.Escape.{high, escaped}
+use Rattle.display.specs.Escape.{high, escaped}
 
 module _ {b : ℕ} where
   pub low : b < 128 → false ≡ high b

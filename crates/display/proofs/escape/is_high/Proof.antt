@@ -1,6 +1,6 @@
-use Rattle.escape.proofs.Escaping.{low, not-low}
-use Rattle.escape.proofs.is_high.Statement.{statement}
-use Rattle.escape.proofs.is_high.Tie as tie
+use Rattle.display.proofs.Escaping.{low, not-low}
+use Rattle.display.proofs.escape.is_high.Statement.{statement}
+use Rattle.display.proofs.escape.is_high.Tie as tie
 
 returns : tie.Need-returns
 returns c = search (low)

@@ -1,2 +1,0 @@
-mod Escaping
-mod Determined
