@@ -5,13 +5,13 @@ use Prim.Native.Nat.{ℕ, zero, suc, _+_, _-_, _/_, _%_, _≤_, _<_}
 use native.Mathlib.Omega.{arith}
 use lib.ListN.{length, take, drop, set, replicate, length-drop, take-append-drop}
 use lib.Seq.{take-at, take-all, drop-set-lt}
-use Rattle.compression.specs.declared.State.{State}
-use Rattle.compression.specs.Compression.{start, compress, run}
-use Rattle.compression.specs.CompressionLaws.{run-one}
+use Rattle.sha1.specs.declared.compression.State.{State}
+use Rattle.sha1.specs.Compression.{start, compress, run}
+use Rattle.sha1.specs.CompressionLaws.{run-one}
 use Rattle.blocks.specs.Block.{blockOf}
 use Rattle.blocks.specs.BlockLaws.{block-short, block-long, length-block}
-use Rattle.endings.specs.Finished.{finished}
-use Rattle.endings.specs.FinishedLaws.{finished-block}
+use Rattle.sha1.specs.Finished.{finished}
+use Rattle.sha1.specs.FinishedLaws.{finished-block}
 use Rattle.sha1.specs.Sha1.{sha1}
 use Rattle.numbers.specs.Numbers.{withLength}
 use Rattle.numbers.specs.NumbersLaws.{length-withLength}

@@ -9,13 +9,13 @@ use borrow.Author.Tests.{le-leb, lt-leb}
 use lib.ListN.{length, take, drop, getD, set, length-append, length-map, drop-of-length-le}
 use lib.Seq.{take-all}
 use lib.Bits.{bitXor}
-use Rattle.compression.specs.declared.State.{State}
-use Rattle.compression.specs.Compression.{start, compress, run}
-use Rattle.compression.specs.CompressionLaws.{run-one}
+use Rattle.sha1.specs.declared.compression.State.{State}
+use Rattle.sha1.specs.Compression.{start, compress, run}
+use Rattle.sha1.specs.CompressionLaws.{run-one}
 use Rattle.blocks.specs.Block.{blockOf}
 use Rattle.blocks.specs.BlockLaws.{length-block}
-use Rattle.endings.specs.Finished.{finished}
-use Rattle.endings.specs.FinishedLaws.{finished-block}
+use Rattle.sha1.specs.Finished.{finished}
+use Rattle.sha1.specs.FinishedLaws.{finished-block}
 use Rattle.sha1.specs.Sha1.{sha1}
 use Rattle.hmac.specs.Hmac.{keyBlock, xored, hmacOf}
 

@@ -3,13 +3,13 @@ ghost use mathlib.Core.Path.{_≡_};
 ghost use mathlib.Core.List.{_++_};
 ghost use Prim.Native.Nat.{_+_};
 ghost use lib.ListN.{length, take};
-ghost use Rattle.compression.specs.Compression.{start, compress};
+ghost use Rattle.sha1.specs.Compression.{start, compress};
 ghost use Rattle.blocks.specs.Block.{blockOf};
-ghost use Rattle.endings.specs.Finished.{finished};
+ghost use Rattle.sha1.specs.Finished.{finished};
 ghost use Rattle.sha1.specs.Sha1.{sha1};
 ghost use Rattle.numbers.specs.Numbers.{withLength};
 ghost use Rattle.hmac.specs.Hmac as spec;
-use compression::State;
+use sha1::compression::State;
 
 pub mod digests;
 
@@ -41,14 +41,14 @@ fn keyed(k: [u8; 64], x: u8) -> State
     ensures { λ r. ⌜ r ≡ compress (spec.xored k x) start ⌝ }
 {
     let b = xored(k, x);
-    compression::absorb(compression::START, &b)
+    sha1::compression::absorb(sha1::compression::START, &b)
 }
 
 // The outer hash, over the inner digest m.
 fn outer(k: [u8; 64], m: [u8; 20]) -> [u8; 20]
     ensures { λ r. ⌜ r ≡ sha1 (spec.xored k 0x5c ++ m) ⌝ }
 {
-    endings::finish(keyed(k, 0x5c), 1, &m)
+    sha1::endings::finish(keyed(k, 0x5c), 1, &m)
 }
 
 // HMAC-SHA-1 of the message m under the key k.
@@ -56,7 +56,7 @@ pub fn hmac(k: &[u8], m: &[u8]) -> [u8; 20]
     ensures { λ r. ⌜ r ≡ spec.hmacOf (now (k .entry)) (now (m .entry)) ⌝ }
 {
     let b = key_block(k);
-    outer(b, endings::finish(keyed(b, 0x36), 1, m))
+    outer(b, sha1::endings::finish(keyed(b, 0x36), 1, m))
 }
 
 // The first block of m, with n in the length field.
@@ -76,9 +76,9 @@ fn inner(h: State, m: &[u8], n: u16) -> [u8; 20]
     let b = relabelled(m, n);
     let p = m.len();
     if p < 64 {
-        endings::finish(h, 1, &b[0..p])
+        sha1::endings::finish(h, 1, &b[0..p])
     } else {
-        endings::finish(compression::absorb(h, &b), 2, &m[64..])
+        sha1::endings::finish(sha1::compression::absorb(h, &b), 2, &m[64..])
     }
 }
 

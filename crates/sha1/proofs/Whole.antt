@@ -3,8 +3,8 @@ use mathlib.Core.List.{List}
 use Prim.Native.Nat.{ℕ, _+_, _*_}
 use native.Mathlib.Omega.{arith}
 use lib.ListN.{length}
-use Rattle.compression.specs.Compression.{start}
-use Rattle.endings.specs.Finished.{finished}
+use Rattle.sha1.specs.Compression.{start}
+use Rattle.sha1.specs.Finished.{finished}
 use Rattle.sha1.specs.Sha1.{sha1}
 
 -- a whole message, with no block before it

@@ -2,8 +2,8 @@
 use Prim.Native.Nat.{ℕ}
 use mathlib.Core.List.{List}
 use lib.ListN.{length}
-use Rattle.compression.specs.Compression.{start}
-use Rattle.endings.specs.Finished.{finished}
+use Rattle.sha1.specs.Compression.{start}
+use Rattle.sha1.specs.Finished.{finished}
 
 unfoldable pub sha1 : List ℕ → List ℕ
 sha1 m = finished start (length m) m

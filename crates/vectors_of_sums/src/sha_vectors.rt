@@ -36,11 +36,11 @@ fn agree(name: &[u8], d: [u8; 20], s: &[u8]) {
 // A million times the letter a, block by block.
 fn million() -> [u8; 20] {
     let block = [b'a'; 64];
-    let mut h = compression::START;
+    let mut h = sha1::compression::START;
     for _ in 0..15625usize {
-        h = compression::absorb(h, &block);
+        h = sha1::compression::absorb(h, &block);
     }
-    endings::finish(h, 15625, b"")
+    sha1::endings::finish(h, 15625, b"")
 }
 
 // The bytes 0, 1, 2 and so on.

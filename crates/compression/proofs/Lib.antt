@@ -1,6 +1,0 @@
-mod Steps
-mod Words
-mod Twenties
-mod Taken
-mod Mixes
-mod Determined

@@ -1,2 +1,0 @@
-pub mod Compression
-pub mod CompressionLaws
