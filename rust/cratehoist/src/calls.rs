@@ -1,4 +1,4 @@
-//! Every call of the library over numbers and byte slices, as C has it, but safe. docs/PROMISES.md says what each equals.
+//! The calls of include/cratehoist.h, over numbers and byte slices as C has them, but safe. docs/PROMISES.md says what each equals.
 //!
 //! They are safe since a slice is a pointer with as many bytes behind it, and Rust keeps a `&mut` apart from every other argument:
 //! nothing else is asked of a caller.
