@@ -1,11 +1,10 @@
-//! CRC-32 beside zlib's: a whole sum, and a sum of three parts as FINGERPRINT takes it, with two bytes replaced.
+//! CRC-32 beside zlib's.
 use crate::measure;
 use std::hint::black_box;
 
 #[link(name = "cratehoist", kind = "static")]
 extern "C" {
     fn cratehoist_crc32(s: *const u8, n: usize) -> u32;
-    fn cratehoist_crc32_update(c: u32, s: *const u8, n: usize) -> u32;
 }
 
 #[link(name = "z")]
@@ -22,27 +21,11 @@ fn theirs(s: &[u8]) -> u32 {
     unsafe { zlib_crc32(0, s.as_ptr(), s.len() as u32) as u32 }
 }
 
-/// The parts, with `other` in place of bytes 2 and 3.
-fn parts<'a>(s: &'a [u8], other: &'a [u8]) -> [&'a [u8]; 3] {
-    [&s[..2], other, &s[4..]]
-}
-
-fn ours_in_parts(s: &[u8], other: &[u8]) -> u32 {
-    !parts(s, other).iter().fold(!0, |c, p| unsafe { cratehoist_crc32_update(c, p.as_ptr(), p.len()) })
-}
-
-fn theirs_in_parts(s: &[u8], other: &[u8]) -> u32 {
-    parts(s, other).iter().fold(0, |c, p| unsafe { zlib_crc32(c, p.as_ptr(), p.len() as u32) }) as u32
-}
-
 /// Every size up to 2,000, at one of eight alignments, and some long ones.
 fn compare(data: &[u8]) {
     for n in (0..2000).chain([4096, 30_000, 65_535]) {
         let s = &data[n % 8..n % 8 + n];
         assert_eq!(ours(s), theirs(s), "{n} bytes");
-        if n >= 4 {
-            assert_eq!(ours_in_parts(s, &[7, 9]), theirs_in_parts(s, &[7, 9]), "{n} bytes in parts");
-        }
     }
 }
 
@@ -59,10 +42,5 @@ pub fn run() {
         let s = &data[..n];
         let time = |sum: fn(&[u8]) -> u32| move || { black_box(sum(black_box(s))); };
         measure::row("crc32", n, "zlib", time(ours), time(theirs));
-    }
-    for n in [20, 100, 1200] {
-        let s = &data[..n];
-        let time = |sum: fn(&[u8], &[u8]) -> u32| move || { black_box(sum(black_box(s), black_box(&[7, 9]))); };
-        measure::row("crc32 in three parts", n, "zlib", time(ours_in_parts), time(theirs_in_parts));
     }
 }

@@ -1,19 +1,14 @@
-//! The UTF-8 check and the count of code points beside Rust's standard library.
+//! The UTF-8 check beside Rust's standard library.
 use crate::measure;
 use std::hint::black_box;
 
 #[link(name = "cratehoist", kind = "static")]
 extern "C" {
     fn cratehoist_is_utf8(bytes: *const u8, size: usize) -> bool;
-    fn cratehoist_code_points(bytes: *const u8, size: usize) -> usize;
 }
 
 fn is_utf8(s: &[u8]) -> bool {
     unsafe { cratehoist_is_utf8(s.as_ptr(), s.len()) }
-}
-
-fn code_points(s: &[u8]) -> usize {
-    unsafe { cratehoist_code_points(s.as_ptr(), s.len()) }
 }
 
 /// Text of about `size` bytes, cut at a character.
@@ -45,11 +40,7 @@ fn compare() {
             for i in 0..cut {
                 for change in [1u8, 0x10, 0x20, 0x40, 0x80, 0xFF] {
                     b[i] ^= change;
-                    let same = std::str::from_utf8(&b);
-                    assert_eq!(is_utf8(&b), same.is_ok());
-                    if let Ok(t) = same {
-                        assert_eq!(code_points(&b), t.chars().count());
-                    }
+                    assert_eq!(is_utf8(&b), std::str::from_utf8(&b).is_ok());
                     b[i] ^= change;
                 }
             }
@@ -80,15 +71,6 @@ pub fn run() {
             let b = s.as_bytes();
             measure::row(&format!("is_utf8, {name}"), b.len(), "str::from_utf8", || _ = black_box(is_utf8(black_box(b))), || {
                 _ = black_box(std::str::from_utf8(black_box(b)))
-            });
-        }
-    }
-    for (name, of) in &TEXTS[..2] {
-        for size in [120, 64 * 1024] {
-            let s = text(of, size);
-            let b = s.as_bytes();
-            measure::row(&format!("code_points, {name}"), b.len(), "chars().count()", || _ = black_box(code_points(black_box(b))), || {
-                _ = black_box(black_box(&s).chars().count())
             });
         }
     }

@@ -28,7 +28,7 @@ static void attribute(uint16_t kind, size_t value) {
 static void fingerprint(void) {
     size_t place = size;
     attribute(CRATEHOIST_FINGERPRINT, 4);
-    uint32_t sum = cratehoist_fingerprint_at(d, size, place);
+    uint32_t sum = cratehoist_crc32(d, place) ^ 0x5354554E; /* the length is already that with this attribute */
     number(place + 4, sum >> 16);
     number(place + 6, sum & 0xFFFF);
 }

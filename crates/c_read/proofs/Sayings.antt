@@ -4,10 +4,12 @@ use mathlib.Core.Path.{_≡_, sym, ap, _∙_}
 use Rattle.wire.specs.TypeNumber.{classNumber}
 use Rattle.wire.specs.declared.method.Method.{Method}
 use Rattle.wire.specs.declared.types.MessageClass.{MessageClass}
+use Rattle.attribute.specs.declared.Walk.{Walk}
+use Rattle.attribute.specs.declared.Walk.the-variants.{Attribute, End, Cut}
 use Rattle.message.specs.declared.Answer.{Answer}
 use Rattle.message.specs.declared.Answer.the-variants.{Whole, Broken, Refused}
 use Rattle.message.specs.declared.Reading as message
-use Rattle.c_read.specs.Said.{saidBy, said}
+use Rattle.c_read.specs.Said.{saidBy, said, stepped}
 
 module _ {r x : message.Reading} (e : r ≡ x) where
   by-answer : (a : Answer) → r .answer ≡ a → saidBy a (r .id .bytes) ≡ said x
@@ -29,3 +31,16 @@ module _ {r x : message.Reading} (e : r ≡ x) where
       → record { what = 2; number = n; «message_class» = 0; method = 0; count = 0; place = 0; id = record { bytes = r .id .bytes } } ≡ said x
   unfolding saidBy
   refused {n} f = by-answer (Refused n) f
+
+module _ (w : Walk) where
+  pub attribute : {p k v n x : ℕ} → w ≡ Attribute p k v n x → record { what = 0; kind = k; place = p; value = v; size = n; next = x } ≡ stepped w
+  unfolding stepped
+  attribute e = ap stepped (sym e)
+
+  pub end : {p : ℕ} → w ≡ End p → record { what = 1; kind = 0; place = p; value = 0; size = 0; next = 0 } ≡ stepped w
+  unfolding stepped
+  end e = ap stepped (sym e)
+
+  pub cut : {p : ℕ} → w ≡ Cut p → record { what = 2; kind = 0; place = p; value = 0; size = 0; next = 0 } ≡ stepped w
+  unfolding stepped
+  cut e = ap stepped (sym e)

@@ -1,8 +1,9 @@
-// What C calls: the reading, in numbers.
+// What C calls: the reading and the walk, in numbers.
 ghost use mathlib.Core.Path.{_≡_};
 ghost use Rattle.rfc5389.specs.Rows.{rfc5389};
+ghost use Rattle.attribute.specs.Walk.{walkAt};
 ghost use Rattle.message.specs.Reading.{readingOf};
-ghost use Rattle.c_read.specs.Said.{said};
+ghost use Rattle.c_read.specs.Said.{said, stepped};
 use c_wire::Id;
 use message::Answer;
 
@@ -16,6 +17,17 @@ pub struct Reading {
     pub count: usize,
     pub place: usize,
     pub id: Id,
+}
+
+// `what` is 0 for an attribute, 1 for the end and 2 for the cut.
+#[repr(C)]
+pub struct Step {
+    pub what: u8,
+    pub kind: u16,
+    pub place: usize,
+    pub value: usize,
+    pub size: usize,
+    pub next: usize,
 }
 
 #[no_mangle]
@@ -63,4 +75,48 @@ pub extern "C" fn cratehoist_read(datagram: &[u8]) -> Reading
             id: Id { bytes: bytes },
         },
     }
+}
+
+fn step_said(w: attribute::Walk) -> Step
+    ensures { λ r. ⌜ r ≡ stepped w ⌝ }
+{
+    match w {
+        attribute::Walk::Attribute {
+            at,
+            kind,
+            value,
+            size,
+            next,
+        } => Step {
+            what: 0,
+            kind,
+            place: at,
+            value,
+            size,
+            next,
+        },
+        attribute::Walk::End { at } => Step {
+            what: 1,
+            kind: 0,
+            place: at,
+            value: 0,
+            size: 0,
+            next: 0,
+        },
+        attribute::Walk::Cut { at } => Step {
+            what: 2,
+            kind: 0,
+            place: at,
+            value: 0,
+            size: 0,
+            next: 0,
+        },
+    }
+}
+
+#[no_mangle]
+pub extern "C" fn cratehoist_walk(datagram: &[u8], place: usize) -> Step
+    ensures { λ r. ⌜ r ≡ stepped (walkAt (now (datagram .entry)) place) ⌝ }
+{
+    step_said(attribute::walk_at(datagram, place))
 }

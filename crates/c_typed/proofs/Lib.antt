@@ -1,2 +1,4 @@
 mod Sayings
+mod Texts
+mod Addresses
 mod Determined

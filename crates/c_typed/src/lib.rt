@@ -1,11 +1,25 @@
-// What C calls: what a value says. A crate of its own, so that the reader in `c_value` is the only caller of the rules there and the
-// compiler puts them into its loop.
+// What C calls: what a value says, and typed appends. A kind is the attribute's type; one that an append has no form for is refused by 23,
+// behind 21. No reader is here, so that in `c_read` and `c_value` the reader is the only caller of the rules, and the compiler puts them
+// into its loop.
 ghost use mathlib.Core.Path.{_≡_};
 ghost use lib.ListN.{length};
 ghost use Rattle.rfc5389.specs.Rows.{rfc5389};
 ghost use Rattle.typed.specs.Typed.{typedOf, partOf, partAt};
+ghost use Rattle.append.specs.Append.{answer, appended};
+ghost use Rattle.append_typed.specs.Typed.{typed, refusal};
+ghost use Rattle.error_codes.specs.ErrorCode.{codeValue, codeRefusal};
+ghost use Rattle.c_write.specs.Said.{told};
 ghost use Rattle.c_typed.specs.Said.{typedSaid};
+ghost use Rattle.c_typed.specs.Given.{textFault, ofKind, ofAddress};
+use addresses::AddressKind;
+use addresses::append_address;
+use append_typed::append_value;
+use c_wire::Address;
 use c_wire::Id;
+use c_write::Written;
+use c_write::in_numbers;
+use net::Family;
+use net::SocketAddr;
 use typed::Value;
 use wire::transaction_id::TransactionId;
 
@@ -69,4 +83,103 @@ pub extern "C" fn cratehoist_typed_value(kind: u16, value: &[u8], id: Id) -> Typ
             size,
         },
     }
+}
+
+#[no_mangle]
+pub extern "C" fn cratehoist_refusal(kind: u16, value: &[u8]) -> u8
+    ensures { λ r. ⌜ r ≡ refusal rfc5389 kind (now (value .entry)) ⌝ }
+{
+    append_typed::refusal_of(kind, value)
+}
+
+// What is wrong with a text of a kind: 0 or 23.
+fn text_fault(kind: u16, text: &[u8]) -> u8
+    ensures { λ r. ⌜ r ≡ textFault kind (now (text .entry)) ⌝ }
+{
+    match kind {
+        0x0006 => append_typed::refusal_of(kind, text),
+        0x0014 => append_typed::refusal_of(kind, text),
+        0x0015 => append_typed::refusal_of(kind, text),
+        0x8022 => append_typed::refusal_of(kind, text),
+        _ => 23,
+    }
+}
+
+#[no_mangle]
+pub extern "C" fn cratehoist_append_text(buffer: &mut [u8], kind: u16, text: &[u8]) -> Written
+    ensures { λ r. ⌜ (r ≡ told (answer (now (buffer .entry)) (textFault kind (now (text .entry))) (typed kind (now (text .entry)))))
+        × (now (buffer .exit) ≡ appended (now (buffer .entry)) (textFault kind (now (text .entry))) (typed kind (now (text .entry)))) ⌝ }
+{
+    let wrong = text_fault(kind, text);
+    in_numbers(append_value(buffer, wrong, kind, text))
+}
+
+#[no_mangle]
+pub extern "C" fn cratehoist_append_unknown_attributes(buffer: &mut [u8], types: &[u8]) -> Written
+    ensures { λ r. ⌜ (r ≡ told (answer (now (buffer .entry)) (refusal rfc5389 0x000A (now (types .entry))) (typed 0x000A (now (types .entry)))))
+        × (now (buffer .exit) ≡ appended (now (buffer .entry)) (refusal rfc5389 0x000A (now (types .entry))) (typed 0x000A (now (types .entry)))) ⌝ }
+{
+    in_numbers(append_typed::append_unknown_attributes(buffer, types))
+}
+
+// An address of a family that there is.
+fn append_kind(buf: &mut [u8], kind: u16, addr: SocketAddr) -> begin::Written
+    ensures { λ r. ⌜ (r ≡ answer (now (buf .entry)) (ofKind (now (buf .entry)) kind addr .0) (ofKind (now (buf .entry)) kind addr .1))
+        × (now (buf .exit) ≡ appended (now (buf .entry)) (ofKind (now (buf .entry)) kind addr .0) (ofKind (now (buf .entry)) kind addr .1)) ⌝ }
+{
+    match kind {
+        0x0001 => append_address(buf, AddressKind::MappedAddress, addr),
+        0x0020 => append_address(buf, AddressKind::XorMappedAddress, addr),
+        0x8023 => append_address(buf, AddressKind::AlternateServer, addr),
+        _ => append_value(buf, 23, kind, b""),
+    }
+}
+
+#[no_mangle]
+pub extern "C" fn cratehoist_append_address(
+    buffer: &mut [u8],
+    kind: u16,
+    address: Address,
+) -> Written
+    ensures { λ r. ⌜ (r ≡ told (answer (now (buffer .entry)) (ofAddress (now (buffer .entry)) kind address .0) (ofAddress (now (buffer .entry)) kind address .1)))
+        × (now (buffer .exit) ≡ appended (now (buffer .entry)) (ofAddress (now (buffer .entry)) kind address .0) (ofAddress (now (buffer .entry)) kind address .1)) ⌝ }
+{
+    let family = address.family;
+    let port = address.port;
+    let ip = address.ip;
+    if family == 1 {
+        return in_numbers(append_kind(
+            buffer,
+            kind,
+            SocketAddr {
+                family: Family::Ipv4,
+                port: port,
+                ip: ip,
+            },
+        ));
+    }
+    if family == 2 {
+        return in_numbers(append_kind(
+            buffer,
+            kind,
+            SocketAddr {
+                family: Family::Ipv6,
+                port: port,
+                ip: ip,
+            },
+        ));
+    }
+    in_numbers(append_value(buffer, 23, kind, b""))
+}
+
+#[no_mangle]
+pub extern "C" fn cratehoist_append_error_code(
+    buffer: &mut [u8],
+    code: u16,
+    phrase: &[u8],
+) -> Written
+    ensures { λ r. ⌜ (r ≡ told (answer (now (buffer .entry)) (codeRefusal rfc5389 code (now (phrase .entry))) (typed 0x0009 (codeValue code (now (phrase .entry))))))
+        × (now (buffer .exit) ≡ appended (now (buffer .entry)) (codeRefusal rfc5389 code (now (phrase .entry))) (typed 0x0009 (codeValue code (now (phrase .entry))))) ⌝ }
+{
+    in_numbers(error_codes::append_error_code(buffer, code, phrase))
 }

@@ -1,21 +1,16 @@
 -- The contracts of the calls determine their answers and the buffer.
 use Prim.Native.Nat.{ℕ}
 use mathlib.Core.List.{List}
-use mathlib.Core.Bool.{Bool}
 use Rattle.base.specs.DeterminedLaws.{by}
 use Rattle.base.specs.Determined.{Determines}
 use Rattle.rfc5389.specs.Rows.{rfc5389}
-use Rattle.value.specs.First.{firstIn, first, placed, isThere}
+use Rattle.value.specs.First.{firstIn, first, placed}
 use Rattle.integrity.specs.Integrity.{integrityFault}
 use Rattle.c_value.specs.Said.{found, valueIn, realmIn}
 use Rattle.c_value.specs.declared.First.{First}
 use Rattle.c_value.specs.declared.Part.{Part}
 use Rattle.c_value.proofs.cratehoist_search.Kinds as search-kinds
 use Rattle.c_value.proofs.cratehoist_search.Reads as search-reads
-use Rattle.c_value.proofs.cratehoist_find.Kinds as find-kinds
-use Rattle.c_value.proofs.cratehoist_find.Reads as find-reads
-use Rattle.c_value.proofs.cratehoist_has.Kinds as has-kinds
-use Rattle.c_value.proofs.cratehoist_has.Reads as has-reads
 use Rattle.c_value.proofs.cratehoist_first_value.Kinds as first-value-kinds
 use Rattle.c_value.proofs.cratehoist_first_value.Reads as first-value-reads
 use Rattle.c_value.proofs.cratehoist_realm.Kinds as realm-kinds
@@ -28,20 +23,6 @@ pub determined-cratehoist-search : Determines search-kinds.ps search-kinds.r {I 
 determined-cratehoist-search =
     by search-kinds.ps search-kinds.r search-reads.Asked search-reads.Learnt _ _
     (λ x. found (placed (firstIn (x .1) (x .0))))
-    (λ κs a y d i q. q)
-
-pub determined-cratehoist-find : Determines find-kinds.ps find-kinds.r {I = List ℕ × ℕ} {A = First} find-reads.Asked find-reads.Learnt
-    (λ κs a. (a .0 .now, a .1 .0)) (λ κs z e. z)
-determined-cratehoist-find =
-    by find-kinds.ps find-kinds.r find-reads.Asked find-reads.Learnt _ _
-    (λ x. found (placed (first rfc5389 (x .1) (x .0))))
-    (λ κs a y d i q. q)
-
-pub determined-cratehoist-has : Determines has-kinds.ps has-kinds.r {I = List ℕ × ℕ} {A = Bool} has-reads.Asked has-reads.Learnt
-    (λ κs a. (a .0 .now, a .1 .0)) (λ κs z e. z)
-determined-cratehoist-has =
-    by has-kinds.ps has-kinds.r has-reads.Asked has-reads.Learnt _ _
-    (λ x. isThere (first rfc5389 (x .1) (x .0)))
     (λ κs a y d i q. q)
 
 pub determined-cratehoist-first-value : Determines first-value-kinds.ps first-value-kinds.r {I = List ℕ × ℕ} {A = Part} first-value-reads.Asked first-value-reads.Learnt

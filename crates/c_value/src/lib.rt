@@ -2,7 +2,7 @@
 // A part is told by where it starts in the lent bytes, and its size.
 ghost use mathlib.Core.Path.{_≡_};
 ghost use Rattle.rfc5389.specs.Rows.{rfc5389};
-ghost use Rattle.value.specs.First.{firstIn, first, placed, isThere};
+ghost use Rattle.value.specs.First.{firstIn, first, placed};
 ghost use Rattle.integrity.specs.Integrity.{integrityFault};
 ghost use Rattle.c_value.specs.Said.{found, valueIn, realmIn};
 // Where the first attribute of a type starts, and the size of its value.
@@ -42,20 +42,6 @@ pub extern "C" fn cratehoist_search(bytes: &[u8], kind: u16) -> First
     ensures { λ r. ⌜ r ≡ found (placed (firstIn kind (now (bytes .entry)))) ⌝ }
 {
     first_said(value::search(bytes, kind))
-}
-
-#[no_mangle]
-pub extern "C" fn cratehoist_find(datagram: &[u8], kind: u16) -> First
-    ensures { λ r. ⌜ r ≡ found (placed (first rfc5389 kind (now (datagram .entry)))) ⌝ }
-{
-    first_said(value::find(datagram, kind))
-}
-
-#[no_mangle]
-pub extern "C" fn cratehoist_has(datagram: &[u8], kind: u16) -> bool
-    ensures { λ r. ⌜ r ≡ isThere (first rfc5389 kind (now (datagram .entry))) ⌝ }
-{
-    value::has(datagram, kind)
 }
 
 #[no_mangle]

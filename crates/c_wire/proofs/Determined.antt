@@ -2,20 +2,14 @@
 use Prim.Native.Nat.{ℕ}
 use Rattle.base.specs.DeterminedLaws.{by}
 use Rattle.base.specs.Determined.{Determines}
-use Rattle.wire.specs.TypeNumber.{classNumbered, typeFrom}
-use Rattle.c_wire.specs.Said.{numbered, parted, formOf}
+use Rattle.wire.specs.TypeNumber.{classNumbered}
+use Rattle.c_wire.specs.Said.{formOf}
 use Rattle.c_wire.specs.declared.Address.{Address}
 use Rattle.c_wire.specs.declared.Formed.{Formed}
 use Rattle.c_wire.specs.declared.Id.{Id}
 use Rattle.wire.specs.declared.types.MessageClass.{MessageClass}
-use Rattle.c_wire.specs.declared.Numbered.{Numbered}
-use Rattle.c_wire.specs.declared.Parted.{Parted}
 use Rattle.c_wire.proofs.class_numbered.Kinds as class-numbered-kinds
 use Rattle.c_wire.proofs.class_numbered.Reads as class-numbered-reads
-use Rattle.c_wire.proofs.cratehoist_type_number.Kinds as type-number-kinds
-use Rattle.c_wire.proofs.cratehoist_type_number.Reads as type-number-reads
-use Rattle.c_wire.proofs.cratehoist_type_from.Kinds as type-from-kinds
-use Rattle.c_wire.proofs.cratehoist_type_from.Reads as type-from-reads
 use Rattle.c_wire.proofs.cratehoist_address_xor.Kinds as address-xor-kinds
 use Rattle.c_wire.proofs.cratehoist_address_xor.Reads as address-xor-reads
 
@@ -24,20 +18,6 @@ pub determined-class-numbered : Determines class-numbered-kinds.ps class-numbere
 determined-class-numbered =
     by class-numbered-kinds.ps class-numbered-kinds.r class-numbered-reads.Asked class-numbered-reads.Learnt _ _
     (λ x. classNumbered x)
-    (λ κs a y d i q. q)
-
-pub determined-cratehoist-type-number : Determines type-number-kinds.ps type-number-kinds.r {I = ℕ × ℕ} {A = Numbered} type-number-reads.Asked type-number-reads.Learnt
-    (λ κs a. (a .0, a .1 .0)) (λ κs z e. z)
-determined-cratehoist-type-number =
-    by type-number-kinds.ps type-number-kinds.r type-number-reads.Asked type-number-reads.Learnt _ _
-    (λ x. numbered (x .0) (x .1))
-    (λ κs a y d i q. q)
-
-pub determined-cratehoist-type-from : Determines type-from-kinds.ps type-from-kinds.r {I = ℕ} {A = Parted} type-from-reads.Asked type-from-reads.Learnt
-    (λ κs a. a .0) (λ κs z e. z)
-determined-cratehoist-type-from =
-    by type-from-kinds.ps type-from-kinds.r type-from-reads.Asked type-from-reads.Learnt _ _
-    (λ x. parted (typeFrom x))
     (λ κs a y d i q. q)
 
 pub determined-cratehoist-address-xor : Determines address-xor-kinds.ps address-xor-kinds.r {I = Address × Id} {A = Formed} address-xor-reads.Asked address-xor-reads.Learnt

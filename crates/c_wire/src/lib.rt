@@ -1,15 +1,11 @@
-// What C calls: type numbers, and the XOR form of an address. Classes and families are numbers there.
+// What C calls: the XOR form of an address; and what the other crates for C share. Classes and families are numbers there.
 ghost use mathlib.Core.Path.{_≡_};
-ghost use Rattle.wire.specs.TypeNumber.{classNumbered, typeFrom};
-ghost use Rattle.c_wire.specs.Said.{numbered, parted, formed, formOf};
+ghost use Rattle.wire.specs.TypeNumber.{classNumbered};
+ghost use Rattle.c_wire.specs.Said.{formed, formOf};
 use net::Family;
 use net::SocketAddr;
-use wire::method::Method;
 use wire::transaction_id::TransactionId;
-use wire::types::FromNumber;
 use wire::types::MessageClass;
-use wire::types::MessageType;
-use wire::types::TypeNumber;
 
 // A transaction ID.
 #[repr(C)]
@@ -23,21 +19,6 @@ pub struct Address {
     pub family: u8,
     pub port: u16,
     pub ip: [u8; 16],
-}
-
-// A type number, where `number` is 0.
-#[repr(C)]
-pub struct Numbered {
-    pub number: u8,
-    pub value: u16,
-}
-
-// Class and method, where `number` is 0.
-#[repr(C)]
-pub struct Parted {
-    pub number: u8,
-    pub message_class: u16,
-    pub method: u16,
 }
 
 // An address in the other form, where `number` is 0.
@@ -56,51 +37,6 @@ pub fn class_numbered(n: u16) -> MessageClass
         1 => MessageClass::Indication,
         2 => MessageClass::SuccessResponse,
         _ => MessageClass::ErrorResponse,
-    }
-}
-
-// A class above 3 is refused as a method above 4,095 is, by 22.
-#[no_mangle]
-pub extern "C" fn cratehoist_type_number(message_class: u16, method: u16) -> Numbered
-    ensures { λ r. ⌜ r ≡ numbered «message_class» method ⌝ }
-{
-    if 3 < message_class {
-        return Numbered {
-            number: 22,
-            value: 0,
-        };
-    }
-    let t = MessageType {
-        class: class_numbered(message_class),
-        method: Method { code: method },
-    };
-    let made = t.as_u16();
-    match made {
-        TypeNumber::Number(value) => Numbered { number: 0, value },
-        TypeNumber::Refused { number } => Numbered { number, value: 0 },
-    }
-}
-
-#[no_mangle]
-pub extern "C" fn cratehoist_type_from(value: u16) -> Parted
-    ensures { λ r. ⌜ r ≡ parted (typeFrom value) ⌝ }
-{
-    let from = MessageType::from_u16(value);
-    match from {
-        FromNumber::Known(t) => {
-            let class = t.class;
-            let method = t.method;
-            Parted {
-                number: 0,
-                message_class: class.as_u16(),
-                method: method.code,
-            }
-        }
-        FromNumber::Refused { number } => Parted {
-            number,
-            message_class: 0,
-            method: 0,
-        },
     }
 }
 

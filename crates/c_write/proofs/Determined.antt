@@ -4,23 +4,22 @@ use mathlib.Core.List.{List}
 use mathlib.Core.Path.{ap₂}
 use Rattle.base.specs.DeterminedLaws.{by}
 use Rattle.base.specs.Determined.{Determines}
-use Rattle.plan.specs.Plan.{planOf}
 use Rattle.append.specs.Append.{attr, answer, appended}
-use Rattle.c_write.specs.Said.{told, begunBy, leftBy, planned}
+use Rattle.seal.specs.Seal.{fingerprint, integrity}
+use Rattle.c_write.specs.Said.{told, begunBy, leftBy}
 use Rattle.begin.specs.declared.Written as begin
 use Rattle.c_wire.specs.declared.Id.{Id}
-use Rattle.c_write.specs.declared.Plan.{Plan}
 use Rattle.c_write.specs.declared.Written.{Written}
 use Rattle.c_write.proofs.in_numbers.Kinds as in-numbers-kinds
 use Rattle.c_write.proofs.in_numbers.Reads as in-numbers-reads
 use Rattle.c_write.proofs.cratehoist_begin.Kinds as begin-kinds
 use Rattle.c_write.proofs.cratehoist_begin.Reads as begin-reads
-use Rattle.c_write.proofs.cratehoist_plan_for.Kinds as plan-for-kinds
-use Rattle.c_write.proofs.cratehoist_plan_for.Reads as plan-for-reads
-use Rattle.c_write.proofs.cratehoist_append_unless.Kinds as append-unless-kinds
-use Rattle.c_write.proofs.cratehoist_append_unless.Reads as append-unless-reads
 use Rattle.c_write.proofs.cratehoist_append_raw.Kinds as append-raw-kinds
 use Rattle.c_write.proofs.cratehoist_append_raw.Reads as append-raw-reads
+use Rattle.c_write.proofs.cratehoist_append_fingerprint.Kinds as append-fingerprint-kinds
+use Rattle.c_write.proofs.cratehoist_append_fingerprint.Reads as append-fingerprint-reads
+use Rattle.c_write.proofs.cratehoist_append_message_integrity.Kinds as append-message-integrity-kinds
+use Rattle.c_write.proofs.cratehoist_append_message_integrity.Reads as append-message-integrity-reads
 
 pub determined-in-numbers : Determines in-numbers-kinds.ps in-numbers-kinds.r {I = begin.Written} {A = Written} in-numbers-reads.Asked in-numbers-reads.Learnt
     (λ κs a. a .0) (λ κs z e. z)
@@ -36,23 +35,23 @@ determined-cratehoist-begin =
     (λ x. (begunBy (x .0) (x .1) (x .2), leftBy (x .0) (x .1) (x .2) (x .3)))
     (λ κs a y d i q. ap₂ (λ (u : Written) (v : List ℕ). (u, v)) (q .0) (q .1))
 
-pub determined-cratehoist-plan-for : Determines plan-for-kinds.ps plan-for-kinds.r {I = List ℕ × ℕ × ℕ × ℕ} {A = Plan} plan-for-reads.Asked plan-for-reads.Learnt
-    (λ κs a. (a .0 .now, a .1 .0, a .1 .1 .0, a .1 .1 .1 .0)) (λ κs z e. z)
-determined-cratehoist-plan-for =
-    by plan-for-kinds.ps plan-for-kinds.r plan-for-reads.Asked plan-for-reads.Learnt _ _
-    (λ x. planned (planOf (x .0) (x .1) (x .2) (x .3)))
-    (λ κs a y d i q. q)
-
-pub determined-cratehoist-append-unless : Determines append-unless-kinds.ps append-unless-kinds.r {I = List ℕ × ℕ × ℕ × List ℕ × List ℕ} {A = Written × List ℕ} append-unless-reads.Asked append-unless-reads.Learnt
-    (λ κs a. (a .0 .now, a .1 .0, a .1 .1 .0, a .1 .1 .1 .0 .now, a .1 .1 .1 .1 .0 .now)) (λ κs z e. (z, e .0 .now))
-determined-cratehoist-append-unless =
-    by append-unless-kinds.ps append-unless-kinds.r append-unless-reads.Asked append-unless-reads.Learnt _ _
-    (λ x. (told (answer (x .0) (x .1) (attr (x .2) (x .3) (x .4))), appended (x .0) (x .1) (attr (x .2) (x .3) (x .4))))
-    (λ κs a y d i q. ap₂ (λ (u : Written) (v : List ℕ). (u, v)) (q .0) (q .1))
-
 pub determined-cratehoist-append-raw : Determines append-raw-kinds.ps append-raw-kinds.r {I = List ℕ × ℕ × List ℕ × List ℕ} {A = Written × List ℕ} append-raw-reads.Asked append-raw-reads.Learnt
     (λ κs a. (a .0 .now, a .1 .0, a .1 .1 .0 .now, a .1 .1 .1 .0 .now)) (λ κs z e. (z, e .0 .now))
 determined-cratehoist-append-raw =
     by append-raw-kinds.ps append-raw-kinds.r append-raw-reads.Asked append-raw-reads.Learnt _ _
     (λ x. (told (answer (x .0) 0 (attr (x .1) (x .2) (x .3))), appended (x .0) 0 (attr (x .1) (x .2) (x .3))))
+    (λ κs a y d i q. ap₂ (λ (u : Written) (v : List ℕ). (u, v)) (q .0) (q .1))
+
+pub determined-cratehoist-append-fingerprint : Determines append-fingerprint-kinds.ps append-fingerprint-kinds.r {I = List ℕ} {A = Written × List ℕ} append-fingerprint-reads.Asked append-fingerprint-reads.Learnt
+    (λ κs a. a .0 .now) (λ κs z e. (z, e .0 .now))
+determined-cratehoist-append-fingerprint =
+    by append-fingerprint-kinds.ps append-fingerprint-kinds.r append-fingerprint-reads.Asked append-fingerprint-reads.Learnt _ _
+    (λ x. (told (answer x 0 (fingerprint x)), appended x 0 (fingerprint x)))
+    (λ κs a y d i q. ap₂ (λ (u : Written) (v : List ℕ). (u, v)) (q .0) (q .1))
+
+pub determined-cratehoist-append-message-integrity : Determines append-message-integrity-kinds.ps append-message-integrity-kinds.r {I = List ℕ × List ℕ} {A = Written × List ℕ} append-message-integrity-reads.Asked append-message-integrity-reads.Learnt
+    (λ κs a. (a .0 .now, a .1 .0 .now)) (λ κs z e. (z, e .0 .now))
+determined-cratehoist-append-message-integrity =
+    by append-message-integrity-kinds.ps append-message-integrity-kinds.r append-message-integrity-reads.Asked append-message-integrity-reads.Learnt _ _
+    (λ x. (told (answer (x .0) 0 (integrity (x .1) (x .0))), appended (x .0) 0 (integrity (x .1) (x .0))))
     (λ κs a y d i q. ap₂ (λ (u : Written) (v : List ℕ). (u, v)) (q .0) (q .1))

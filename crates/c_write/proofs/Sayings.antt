@@ -8,10 +8,8 @@ use Rattle.wire.specs.declared.types.MessageClass.{MessageClass}
 use Rattle.begin.specs.Begin.{begun, beginning}
 use Rattle.begin.specs.declared.Written as begin
 use Rattle.begin.specs.declared.Written.the-variants.{Total, Refused}
-use Rattle.plan.specs.declared.Plan as plan
-use Rattle.plan.specs.declared.Plan.the-variants.{Go, No}
 use Rattle.c_wire.specs.declared.Id.{Id}
-use Rattle.c_write.specs.Said.{told, begunBy, leftBy, planned}
+use Rattle.c_write.specs.Said.{told, begunBy, leftBy}
 use Rattle.c_write.specs.declared.Written.{Written}
 
 module _ (w : begin.Written) where
@@ -42,12 +40,3 @@ module _ (d : List ℕ) (c m : ℕ) where
     unfolding leftBy
     leaves id e f =
         rw (le-ltb 3 c h) (f ∙ ap (λ (x : MessageClass). beginning d x (record { code = m }) (record { bytes = id .bytes })) e)
-
-module _ {p x : plan.Plan} (e : p ≡ x) where
-  pub go : {a b t : ℕ} → p ≡ Go a b t → record { number = 0; place = a; body = b; total = t } ≡ planned x
-  unfolding planned
-  go f = ap planned (sym f ∙ e)
-
-  pub no : {n : ℕ} → p ≡ No n → record { number = n; place = 0; body = 0; total = 0 } ≡ planned x
-  unfolding planned
-  no f = ap planned (sym f ∙ e)

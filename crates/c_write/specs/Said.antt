@@ -7,11 +7,8 @@ use Rattle.wire.specs.TypeNumber.{classNumbered}
 use Rattle.begin.specs.Begin.{begun, beginning}
 use Rattle.begin.specs.declared.Written as begin
 use Rattle.begin.specs.declared.Written.the-variants.{Total, Refused}
-use Rattle.plan.specs.declared.Plan as plan
-use Rattle.plan.specs.declared.Plan.the-variants.{Go, No}
 use Rattle.c_wire.specs.declared.Id.{Id}
 use Rattle.c_write.specs.declared.Written.{Written}
-use Rattle.c_write.specs.declared.Plan.{Plan}
 
 unfoldable pub told : begin.Written → Written
 told (Total n) = record { number = 0; size = n }
@@ -23,7 +20,3 @@ begunBy d c m = pick (ltb 3 c) (record { number = 22; size = 0 }) (told (begun d
 
 unfoldable pub leftBy : List ℕ → ℕ → ℕ → Id → List ℕ
 leftBy d c m id = pick (ltb 3 c) d (beginning d (classNumbered c) (record { code = m }) (record { bytes = id .bytes }))
-
-unfoldable pub planned : plan.Plan → Plan
-planned (Go p b t) = record { number = 0; place = p; body = b; total = t }
-planned (No n) = record { number = n; place = 0; body = 0; total = 0 }

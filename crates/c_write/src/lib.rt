@@ -1,8 +1,8 @@
-// What C calls: a message begun, and raw attributes appended.
+// What C calls: a message begun, raw attributes appended, and the message sealed.
 ghost use mathlib.Core.Path.{_≡_};
-ghost use Rattle.plan.specs.Plan.{planOf};
 ghost use Rattle.append.specs.Append.{attr, answer, appended};
-ghost use Rattle.c_write.specs.Said.{told, begunBy, leftBy, planned};
+ghost use Rattle.seal.specs.Seal.{fingerprint, integrity};
+ghost use Rattle.c_write.specs.Said.{told, begunBy, leftBy};
 use c_wire::Id;
 use wire::method::Method;
 use wire::transaction_id::TransactionId;
@@ -12,15 +12,6 @@ use wire::transaction_id::TransactionId;
 pub struct Written {
     pub number: u8,
     pub size: usize,
-}
-
-// Where an attribute would go, the body length and the size of the message with it, where `number` is 0.
-#[repr(C)]
-pub struct Plan {
-    pub number: u8,
-    pub place: usize,
-    pub body: u16,
-    pub total: usize,
 }
 
 // An answer of the writer in numbers.
@@ -60,41 +51,6 @@ pub extern "C" fn cratehoist_begin(
 }
 
 #[no_mangle]
-pub extern "C" fn cratehoist_plan_for(buffer: &[u8], wrong: u8, size: usize, padding: usize) -> Plan
-    ensures { λ r. ⌜ r ≡ planned (planOf (now (buffer .entry)) wrong size padding) ⌝ }
-{
-    let p = plan::plan_for(buffer, wrong, size, padding);
-    match p {
-        plan::Plan::Go { at, body, total } => Plan {
-            number: 0,
-            place: at,
-            body,
-            total,
-        },
-        plan::Plan::No { number } => Plan {
-            number,
-            place: 0,
-            body: 0,
-            total: 0,
-        },
-    }
-}
-
-#[no_mangle]
-pub extern "C" fn cratehoist_append_unless(
-    buffer: &mut [u8],
-    wrong: u8,
-    kind: u16,
-    value: &[u8],
-    padding: &[u8],
-) -> Written
-    ensures { λ r. ⌜ (r ≡ told (answer (now (buffer .entry)) wrong (attr kind (now (value .entry)) (now (padding .entry)))))
-        × (now (buffer .exit) ≡ appended (now (buffer .entry)) wrong (attr kind (now (value .entry)) (now (padding .entry)))) ⌝ }
-{
-    in_numbers(append::append_unless(buffer, wrong, kind, value, padding))
-}
-
-#[no_mangle]
 pub extern "C" fn cratehoist_append_raw(
     buffer: &mut [u8],
     kind: u16,
@@ -105,4 +61,20 @@ pub extern "C" fn cratehoist_append_raw(
         × (now (buffer .exit) ≡ appended (now (buffer .entry)) 0 (attr kind (now (value .entry)) (now (padding .entry)))) ⌝ }
 {
     in_numbers(append::append_raw(buffer, kind, value, padding))
+}
+
+#[no_mangle]
+pub extern "C" fn cratehoist_append_fingerprint(buffer: &mut [u8]) -> Written
+    ensures { λ r. ⌜ (r ≡ told (answer (now (buffer .entry)) 0 (fingerprint (now (buffer .entry)))))
+        × (now (buffer .exit) ≡ appended (now (buffer .entry)) 0 (fingerprint (now (buffer .entry)))) ⌝ }
+{
+    in_numbers(seal::append_fingerprint(buffer))
+}
+
+#[no_mangle]
+pub extern "C" fn cratehoist_append_message_integrity(buffer: &mut [u8], key: &[u8]) -> Written
+    ensures { λ r. ⌜ (r ≡ told (answer (now (buffer .entry)) 0 (integrity (now (key .entry)) (now (buffer .entry)))))
+        × (now (buffer .exit) ≡ appended (now (buffer .entry)) 0 (integrity (now (key .entry)) (now (buffer .entry)))) ⌝ }
+{
+    in_numbers(seal::append_message_integrity(buffer, key))
 }

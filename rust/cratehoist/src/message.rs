@@ -79,7 +79,7 @@ impl<'a> Message<'a> {
         match found.there {
             true => T::from_raw(
                 self,
-                RawAttribute::at(self.datagram, calls::step_at(self.datagram, found.place)),
+                RawAttribute::at(self.datagram, calls::walk(self.datagram, found.place)),
             ),
             false => None,
         }
@@ -97,6 +97,7 @@ impl<'a> Message<'a> {
     /// ([`AttributeType::is_comprehension_required`](crate::AttributeType::is_comprehension_required)).
     pub fn unknown_attributes(&self) -> UnknownAttributes<'a> {
         UnknownAttributes {
+            message: *self,
             all: RawAttributes::of(self.datagram),
         }
     }
@@ -152,7 +153,7 @@ impl<'a> Iterator for RawAttributes<'a> {
     type Item = RawAttribute<'a>;
 
     fn next(&mut self) -> Option<Self::Item> {
-        let step = calls::step_at(self.datagram, self.place);
+        let step = calls::walk(self.datagram, self.place);
         if step.what != sys::ATTRIBUTE {
             return None;
         }
@@ -180,14 +181,16 @@ impl<'a> Iterator for Attributes<'a> {
 /// The unknown attributes of a message: see [`Message::unknown_attributes`].
 #[derive(Debug, Clone)]
 pub struct UnknownAttributes<'a> {
+    message: Message<'a>,
     all: RawAttributes<'a>,
 }
 impl<'a> Iterator for UnknownAttributes<'a> {
     type Item = RawAttribute<'a>;
 
     fn next(&mut self) -> Option<Self::Item> {
+        let message = self.message;
         self.all
-            .find(|raw| !calls::sizes_of(raw.get_type().as_u16()).known)
+            .find(|raw| rfc5389::Attribute::known(&message, *raw).is_none())
     }
 }
 

@@ -8,7 +8,7 @@ fn named(name: calls::Name) -> String {
 
 #[test]
 fn types_of_attributes() {
-    for (kind, name) in [
+    let kinds = [
         (MappedAddress::CODEPOINT, "MAPPED-ADDRESS"),
         (Username::CODEPOINT, "USERNAME"),
         (MessageIntegrity::CODEPOINT, "MESSAGE-INTEGRITY"),
@@ -20,8 +20,13 @@ fn types_of_attributes() {
         (Software::CODEPOINT, "SOFTWARE"),
         (AlternateServer::CODEPOINT, "ALTERNATE-SERVER"),
         (Fingerprint::CODEPOINT, "FINGERPRINT"),
-    ] {
+    ];
+    // the list takes no known type with so many bytes, and any other
+    let long = vec![0; 65_535];
+    for kind in 0..=u16::MAX {
+        let name = kinds.iter().find(|k| k.0 == kind).map_or("", |k| k.1);
         assert_eq!(named(calls::attribute_name(kind)), name);
+        assert_eq!(calls::refusal(kind, &long) != 0, !name.is_empty());
     }
 }
 
@@ -30,7 +35,9 @@ fn methods() {
     assert_eq!(named(calls::method_name(BINDING.as_u16())), "Binding");
     for code in 0..=u16::MAX {
         let number = Method::new(code).map_or_else(|e| e.number(), |_| 0);
-        assert_eq!(number, calls::type_number(sys::REQUEST, code).number);
+        let id = calls::Id { bytes: [0; 12] };
+        let begun = calls::begin(&mut [0; 20], sys::REQUEST, code, id);
+        assert_eq!(number, begun.number);
     }
 }
 
@@ -67,8 +74,10 @@ fn error_codes() {
 
 #[test]
 fn software_in_a_constant() {
-    let longest = usize::from(calls::sizes_of(sys::SOFTWARE).greatest);
-    let text: &'static str = "a".repeat(longest + 1).leak();
+    let text: &'static str = "a".repeat(1000).leak();
+    let refused = |size: &usize| calls::refusal(sys::SOFTWARE, text[..*size].as_bytes()) != 0;
+    let above = (0..1000).find(refused).unwrap();
+    let (text, longest) = (&text[..above], above - 1);
     assert_eq!(
         Software::new_static(&text[..longest]).description().len(),
         longest

@@ -1,11 +1,10 @@
-use Rattle.wire.specs.SaidLaws.{type-number-one, from-number-one}
 use Rattle.c_wire.proofs.Sayings.{other}
 use borrow.Author.Needs.{needs}
 use Rattle.c_wire.proofs.form_of.Statement.{statement}
 use Rattle.c_wire.proofs.form_of.Tie as tie
 
 returns : tie.Need-returns
-returns c = search (other, type-number-one, from-number-one)
+returns c = search (other)
 
 pub form-of-spec : {M : Type 1} → statement M
 form-of-spec = tie.close (tie.spec (λ c κs. search needs) returns)

@@ -240,9 +240,11 @@ impl MessageIntegrity<'_> {
         // a MESSAGE-INTEGRITY that starts at `place` ends within a body of 16 bits, so its length fits
         let length = (self.place + 4) as u16;
         let digest = calls::hmac_front(key, self.datagram, self.place, length);
-        match calls::same_digest(digest, &self.hmac_sha1) {
-            true => Ok(()),
-            false => Err(errors::Unauthorized.into()),
+        // all twenty bytes are compared, so that the time doesn't tell where the first one differs
+        let bytes = digest.bytes.iter().zip(&self.hmac_sha1);
+        match bytes.fold(0, |differ, (a, b)| differ | (a ^ b)) {
+            0 => Ok(()),
+            _ => Err(errors::Unauthorized.into()),
         }
     }
 
@@ -283,8 +285,9 @@ impl<'a> Attribute<'a> for Fingerprint {
     const CODEPOINT: u16 = sys::FINGERPRINT;
 
     fn from_raw(message: &Message<'a>, raw: RawAttribute<'a>) -> Option<Self> {
-        typed(message, &raw, Self::CODEPOINT).map(|_| Fingerprint {
-            crc32: calls::u32_at(raw.value(), 0),
+        typed(message, &raw, Self::CODEPOINT)?;
+        Some(Fingerprint {
+            crc32: u32::from_be_bytes(raw.value().try_into().ok()?),
         })
     }
 }
