@@ -9,8 +9,8 @@ use Rattle.base.specs.Choice.{pick}
 use Rattle.net.specs.Net.{familyNumber}
 use Rattle.net.specs.declared.Family.{Family}
 use Rattle.wire.specs.declared.transaction_id.TransactionId.{TransactionId}
-use Rattle.rfc5389.specs.Rows.{rfc5389}
-use Rattle.rfc5389.specs.Fault.{ruleOf, fault}
+use Rattle.rfc5389.specs.Rows.{rfc5389, ruleOf}
+use Rattle.rfc5389.specs.Fault.{fault}
 use Rattle.rfc5389.specs.declared.Rule.{Rule}
 use Rattle.rfc5389.specs.declared.Rule.the-variants as rule
 use Rattle.typed.specs.Typed.{without, saidBy, readOf, typedOf, startBy, partAt, partOf}
@@ -26,19 +26,20 @@ startIn (Code c) = 4
 startIn Plain = 0
 startIn (Refused n) = 0
 
-starts-by : (b : Bool) (q : Rule) (k : ℕ) (v : List ℕ) (id : TransactionId) (n : ℕ)
-    → startIn (pick b (readOf q k v id) (without (Refused n)) .value) ≡ pick b (startBy q) 0
+starts-by : (b : Bool) (q : Rule) (v : List ℕ) (id : TransactionId) (n : ℕ)
+    → startIn (pick b (readOf q v id) (without (Refused n)) .value) ≡ pick b (startBy q) 0
 unfolding readOf saidBy startBy
-starts-by true rule.Address k v id n = refl
-starts-by true rule.Code k v id n = refl
-starts-by true rule.Text k v id n = refl
-starts-by true rule.Types k v id n = refl
-starts-by true rule.Plain k v id n = refl
-starts-by false q k v id n = refl
+starts-by true rule.Address v id n = refl
+starts-by true rule.XorAddress v id n = refl
+starts-by true rule.Code v id n = refl
+starts-by true rule.Text v id n = refl
+starts-by true rule.Types v id n = refl
+starts-by true rule.Plain v id n = refl
+starts-by false q v id n = refl
 
 starts : (k : ℕ) (v : List ℕ) (id : TransactionId) → startIn (typedOf rfc5389 k v id .value) ≡ partAt rfc5389 k v
 unfolding typedOf partAt
-starts k v id = starts-by (eqb (fault rfc5389 k v) 0) (ruleOf k) k v id (fault rfc5389 k v)
+starts k v id = starts-by (eqb (fault rfc5389 k v) 0) (ruleOf rfc5389 k) v id (fault rfc5389 k v)
 
 module _ (k : ℕ) (v : List ℕ) (id : TransactionId) {t : typed.Typed} (e : t ≡ typedOf rfc5389 k v id) {p : List ℕ} (q : p ≡ partOf rfc5389 k v) where
   by-value : (x : Value) → t .value ≡ x

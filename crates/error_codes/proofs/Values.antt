@@ -13,7 +13,7 @@ use Rattle.base.specs.LaidLaws.{laid-is}
 use Rattle.buffers.specs.Put.{put}
 use Rattle.buffers.specs.PutLaws.{put-laid}
 use Rattle.rfc5389.specs.Rows.{rfc5389, look}
-use Rattle.rfc5389.specs.Fault.{fault, sizeFault}
+use Rattle.rfc5389.specs.Fault.{fault, entryFault}
 use Rattle.begin.specs.declared.Written.{Written}
 use Rattle.append.specs.Append.{answer, appended}
 use Rattle.append.specs.AppendLaws.{answer-wrong, appended-wrong}
@@ -62,7 +62,7 @@ module _ (c n : ℕ) where
 
 -- an ERROR-CODE of more than 131 bytes
 too-long : (v : List ℕ) → 131 < length v → fault rfc5389 0x0009 v ≡ 11
-unfolding fault look sizeFault
+unfolding fault look entryFault
 too-long v h = simp (le-ltb (length v) 4 (omega arith), lt-ltb 131 (length v) h)
 
 module _ (c : ℕ) (s : List ℕ) where

@@ -12,7 +12,8 @@ use Rattle.numbers.specs.Numbers.{be16}
 use Rattle.wire.specs.declared.method.Method.{Method}
 use Rattle.wire.specs.declared.types.MessageClass.{MessageClass}
 use Rattle.rfc5389.specs.Rows.{look, rfc5389}
-use Rattle.rfc5389.specs.Fault.{ruleOf, ruleFault, sizeFault, fault}
+use Rattle.rfc5389.specs.Fault.{ruleFault, entryFault, fault}
+use Rattle.rfc5389.specs.declared.Rule.the-variants.{Plain}
 use Rattle.message.specs.Reading.{answerSaid, readingSaid, readingOf}
 use Rattle.message.specs.declared.Answer.{Answer}
 use Rattle.message.specs.declared.Answer.the-variants.{Whole, Broken, Refused}
@@ -30,10 +31,10 @@ use Rattle.integrity.specs.Integrity.{integrityAt, comparedAt, compared,
 
 -- a MESSAGE-INTEGRITY that passes has 20 bytes
 twenty : (v : List ℕ) → fault rfc5389 0x0008 v ≡ 0 → 20 ≤ length v
-unfolding fault look sizeFault
+unfolding fault look entryFault
 twenty v e = go (ltb (length v) 20) refl e
   where
-    go : (b : Bool) → ltb (length v) 20 ≡ b → pick b 11 (pick (ltb 20 (length v)) 11 (ruleFault (ruleOf 0x0008) v)) ≡ 0 → 20 ≤ length v
+    go : (b : Bool) → ltb (length v) 20 ≡ b → pick b 11 (pick (ltb 20 (length v)) 11 (ruleFault Plain v)) ≡ 0 → 20 ≤ length v
     go true f g = absurd (omega arith)
     go false f g = ltb-false (length v) 20 f
 

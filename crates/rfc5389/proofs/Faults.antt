@@ -9,20 +9,12 @@ use lib.ListN.{length, getD, take, drop, length-drop}
 use lib.Seq.{take-all}
 use Rattle.base.specs.Choice.{pick}
 use Rattle.unicode.specs.Utf8.{isUtf8}
-use Rattle.rfc5389.specs.Rows.{look, rfc5389}
-use Rattle.rfc5389.specs.Fault.{ruleOf, addressFault, codeFault, ruleFault, sizeFault, fault}
+use Rattle.rfc5389.specs.Rows.{look, rfc5389, ruleIn}
+use Rattle.rfc5389.specs.Fault.{addressFault, codeFault, ruleFault, entryFault, fault}
 use Rattle.rfc5389.specs.declared.Rule.{Rule}
-use Rattle.rfc5389.specs.declared.Rule.the-variants.{Address, Text, Code, Types, Plain}
-use Rattle.rfc5389.specs.declared.Sizes.{Sizes}
-use Rattle.rfc5389.specs.declared.Sizes.the-variants.{Between, Unknown}
-
--- no arm of the match on the type
-pub no-rule : (k : ℕ) → (k ≡ 0x0001 → ⊥) → (k ≡ 0x0020 → ⊥) → (k ≡ 0x8023 → ⊥) → (k ≡ 0x0006 → ⊥) → (k ≡ 0x0014 → ⊥) → (k ≡ 0x0015 → ⊥)
-    → (k ≡ 0x8022 → ⊥) → (k ≡ 0x0009 → ⊥) → (k ≡ 0x000A → ⊥) → Plain ≡ ruleOf k
-unfolding ruleOf
-no-rule k a b c d e f g h i =
-    simp
-    (ne-eqb k 0x0001 a, ne-eqb k 0x0020 b, ne-eqb k 0x8023 c, ne-eqb k 0x0006 d, ne-eqb k 0x0014 e, ne-eqb k 0x0015 f, ne-eqb k 0x8022 g, ne-eqb k 0x0009 h, ne-eqb k 0x000A i)
+use Rattle.rfc5389.specs.declared.Rule.the-variants.{Address, XorAddress, Text, Code, Types, Plain}
+use Rattle.rfc5389.specs.declared.Entry.{Entry}
+use Rattle.rfc5389.specs.declared.Entry.the-variants.{Listed, Unknown}
 
 module _ (v : List ℕ) where
   pub address-4 : length v ≡ 8 → getD v 1 0 ≡ 1 → 0 ≡ addressFault v
@@ -87,6 +79,10 @@ module _ (v : List ℕ) where
     unfolding ruleFault
     rule-address e f = rw e f
 
+    pub rule-xor : {n : ℕ} → q ≡ XorAddress → n ≡ addressFault v → n ≡ ruleFault q v
+    unfolding ruleFault
+    rule-xor e f = rw e f
+
     pub rule-code : {n : ℕ} → q ≡ Code → n ≡ codeFault v → n ≡ ruleFault q v
     unfolding ruleFault
     rule-code e f = rw e f
@@ -107,24 +103,34 @@ module _ (v : List ℕ) where
     unfolding ruleFault
     rule-no-text e f g = rw e (ap (λ (x : Bool). pick x 0 14) (sym g ∙ f))
 
-  module _ (k : ℕ) {s : Sizes} (e : s ≡ look rfc5389 k) where
-    by-sizes : {n : ℕ} → n ≡ sizeFault s (ruleOf k) v → n ≡ fault rfc5389 k v
-    unfolding fault
-    by-sizes p = p ∙ ap (λ (x : Sizes). sizeFault x (ruleOf k) v) e
+  module _ {x : Entry} where
+    pub unknown : x ≡ Unknown → 0 ≡ entryFault x v
+    unfolding entryFault
+    unknown f = rw f
 
-    pub unknown : s ≡ Unknown → 0 ≡ fault rfc5389 k v
-    unfolding sizeFault
-    unknown f = by-sizes (rw f)
+    module _ {l g : ℕ} {q : Rule} (f : x ≡ Listed l g q) where
+      pub too-short : length v < l → 11 ≡ entryFault x v
+      unfolding entryFault
+      too-short h = rw f (simp (lt-ltb (length v) l h))
 
-    module _ {l g : ℕ} (f : s ≡ Between l g) where
-      pub too-short : length v < l → 11 ≡ fault rfc5389 k v
-      unfolding sizeFault
-      too-short h = by-sizes (rw f (simp (lt-ltb (length v) l h)))
+      pub too-long : l ≤ length v → g < length v → 11 ≡ entryFault x v
+      unfolding entryFault
+      too-long h i = rw f (simp (le-ltb (length v) l h, lt-ltb g (length v) i))
 
-      pub too-long : l ≤ length v → g < length v → 11 ≡ fault rfc5389 k v
-      unfolding sizeFault
-      too-long h i = by-sizes (rw f (simp (le-ltb (length v) l h, lt-ltb g (length v) i)))
+      pub by-rule : {n : ℕ} → l ≤ length v → length v ≤ g → n ≡ ruleFault q v → n ≡ entryFault x v
+      unfolding entryFault
+      by-rule h i b = rw f (simp (le-ltb (length v) l h, le-ltb g (length v) i) b)
 
-      pub by-rule : {q : Rule} {n : ℕ} → l ≤ length v → length v ≤ g → q ≡ ruleOf k → n ≡ ruleFault q v → n ≡ fault rfc5389 k v
-      unfolding sizeFault
-      by-rule h i a b = by-sizes (rw f (simp (le-ltb (length v) l h, le-ltb g (length v) i) (b ∙ ap (λ (x : Rule). ruleFault x v) a)))
+  pub by-kind : (k : ℕ) {x : Entry} {n : ℕ} → x ≡ look rfc5389 k → n ≡ entryFault x v → n ≡ fault rfc5389 k v
+  unfolding fault
+  by-kind k e f = f ∙ ap (λ (y : Entry). entryFault y v) e
+
+-- the rule of an entry
+module _ {x : Entry} where
+  pub no-rule : x ≡ Unknown → Plain ≡ ruleIn x
+  unfolding ruleIn
+  no-rule f = rw f
+
+  pub its-rule : {l g : ℕ} {q : Rule} → x ≡ Listed l g q → q ≡ ruleIn x
+  unfolding ruleIn
+  its-rule f = rw f

@@ -11,7 +11,7 @@ use lib.Dec.{eqb}
 use Rattle.base.specs.Choice.{pick}
 use Rattle.rfc5389.specs.Rows.{look, rfc5389}
 use Rattle.rfc5389.specs.declared.Row.{Row}
-use Rattle.rfc5389.specs.declared.Sizes.the-variants.{Between, Unknown}
+use Rattle.rfc5389.specs.declared.Entry.the-variants.{Listed, Unknown}
 
 pub record Looking (rs : List Row) (k i : ℕ) : Type 0 where
   pub all : rs ≡ rfc5389
@@ -23,7 +23,7 @@ start k = record { all = refl; within = omega arith; left = refl }
 
 module _ {rs : List Row} {k i : ℕ} (z : Row) (g : Looking rs k i) (h : i < 11) where
   here : look (drop i rs) k
-      ≡ pick (eqb (getD rs i z .kind) k) (Between (getD rs i z .least) (getD rs i z .greatest)) (look (drop (suc i) rs) k)
+      ≡ pick (eqb (getD rs i z .kind) k) (Listed (getD rs i z .least) (getD rs i z .greatest) (getD rs i z .rule)) (look (drop (suc i) rs) k)
   unfolding look
   here = ap (λ (l : List Row). look l k) (drop-cons rs i z (rw (g .all) h))
 
@@ -34,7 +34,7 @@ module _ {rs : List Row} {k i : ℕ} (z : Row) (g : Looking rs k i) (h : i < 11)
     left = rw add-one (sym (here ∙ simp (ne-eqb (getD rs i z .kind) k ne)) ∙ g .left);
   }
 
-  pub found : getD rs i z .kind ≡ k → Between (getD rs i z .least) (getD rs i z .greatest) ≡ look rfc5389 k
+  pub found : getD rs i z .kind ≡ k → Listed (getD rs i z .least) (getD rs i z .greatest) (getD rs i z .rule) ≡ look rfc5389 k
   found e = sym (here ∙ simp (eq-eqb (getD rs i z .kind) k e)) ∙ g .left
 
 pub done : {rs : List Row} {k i : ℕ} → Looking rs k i → 11 ≤ i → Unknown ≡ look rfc5389 k

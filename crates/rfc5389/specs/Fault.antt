@@ -8,30 +8,9 @@ use Rattle.unicode.specs.Utf8.{isUtf8}
 use Rattle.rfc5389.specs.Rows.{look}
 use Rattle.rfc5389.specs.declared.Row.{Row}
 use Rattle.rfc5389.specs.declared.Rule.{Rule}
-use Rattle.rfc5389.specs.declared.Rule.the-variants.{Address, Text, Code, Types, Plain}
-use Rattle.rfc5389.specs.declared.Sizes.{Sizes}
-use Rattle.rfc5389.specs.declared.Sizes.the-variants.{Between, Unknown}
-
--- the rules by number
-unfoldable pub ruleNumber : Rule → ℕ
-ruleNumber Plain = 0
-ruleNumber Address = 1
-ruleNumber Text = 2
-ruleNumber Code = 3
-ruleNumber Types = 4
-
--- what a value owes besides its size
-unfoldable pub ruleOf : ℕ → Rule
-ruleOf k =
-    pick (eqb k 0x0001) Address
-    (pick (eqb k 0x0020) Address
-    (pick (eqb k 0x8023) Address
-    (pick (eqb k 0x0006) Text
-    (pick (eqb k 0x0014) Text
-    (pick (eqb k 0x0015) Text
-    (pick (eqb k 0x8022) Text
-    (pick (eqb k 0x0009) Code
-    (pick (eqb k 0x000A) Types Plain))))))))
+use Rattle.rfc5389.specs.declared.Rule.the-variants.{Address, XorAddress, Text, Code, Types, Plain}
+use Rattle.rfc5389.specs.declared.Entry.{Entry}
+use Rattle.rfc5389.specs.declared.Entry.the-variants.{Listed, Unknown}
 
 -- 8 bytes go with family 1 and 20 with family 2
 unfoldable pub addressFault : List ℕ → ℕ
@@ -51,15 +30,16 @@ codeFault v =
 
 unfoldable pub ruleFault : Rule → List ℕ → ℕ
 ruleFault Address v = addressFault v
+ruleFault XorAddress v = addressFault v
 ruleFault Text v = pick (isUtf8 v) 0 14
 ruleFault Code v = codeFault v
 ruleFault Types v = pick (eqb (length v % 2) 0) 0 11
 ruleFault Plain v = 0
 
 -- a value against the sizes of its type, and then its rule; a type that the list doesn't have owes nothing
-unfoldable pub sizeFault : Sizes → Rule → List ℕ → ℕ
-sizeFault Unknown q v = 0
-sizeFault (Between l g) q v = pick (ltb (length v) l) 11 (pick (ltb g (length v)) 11 (ruleFault q v))
+unfoldable pub entryFault : Entry → List ℕ → ℕ
+entryFault Unknown v = 0
+entryFault (Listed l g q) v = pick (ltb (length v) l) 11 (pick (ltb g (length v)) 11 (ruleFault q v))
 
 unfoldable pub fault : List Row → ℕ → List ℕ → ℕ
-fault rows k v = sizeFault (look rows k) (ruleOf k) v
+fault rows k v = entryFault (look rows k) v

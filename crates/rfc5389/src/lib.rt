@@ -1,15 +1,27 @@
-// The attributes of RFC 5389: the list of types with their sizes, and what is wrong with a value.
+// The attributes of RFC 5389: one row for each kind, and what is wrong with a value.
 ghost use mathlib.Core.Path.{_≡_};
-ghost use Rattle.rfc5389.specs.Rows.{sizesSaid, look, rfc5389};
-ghost use Rattle.rfc5389.specs.Fault.{ruleNumber, ruleOf, addressFault, codeFault, ruleFault, fault};
+ghost use Rattle.rfc5389.specs.Rows.{ruleNumber, entrySaid, ruleIn, look, rfc5389};
+ghost use Rattle.rfc5389.specs.Fault.{addressFault, codeFault, ruleFault, entryFault, fault};
 
 pub mod errors;
 pub mod methods;
 
+// What a value owes besides its size, and how it is read and written.
+pub enum Rule {
+    Plain,
+    Address,
+    XorAddress,
+    Text,
+    Code,
+    Types,
+}
+
+// One for each kind.
 pub struct Row {
     pub kind: u16,
     pub least: u16,
     pub greatest: u16,
+    pub rule: Rule,
 }
 
 pub const ROWS: [Row; 11] = [
@@ -17,106 +29,111 @@ pub const ROWS: [Row; 11] = [
         kind: 0x0001,
         least: 8,
         greatest: 20,
+        rule: Rule::Address,
     },
     Row {
         kind: 0x0006,
         least: 0,
         greatest: 512,
+        rule: Rule::Text,
     },
     Row {
         kind: 0x0008,
         least: 20,
         greatest: 20,
+        rule: Rule::Plain,
     },
     Row {
         kind: 0x0009,
         least: 4,
         greatest: 131,
+        rule: Rule::Code,
     },
     Row {
         kind: 0x000A,
         least: 0,
         greatest: 65534,
+        rule: Rule::Types,
     },
     Row {
         kind: 0x0014,
         least: 0,
         greatest: 127,
+        rule: Rule::Text,
     },
     Row {
         kind: 0x0015,
         least: 0,
         greatest: 127,
+        rule: Rule::Text,
     },
     Row {
         kind: 0x0020,
         least: 8,
         greatest: 20,
+        rule: Rule::XorAddress,
     },
     Row {
         kind: 0x8022,
         least: 0,
         greatest: 127,
+        rule: Rule::Text,
     },
     Row {
         kind: 0x8023,
         least: 8,
         greatest: 20,
+        rule: Rule::Address,
     },
     Row {
         kind: 0x8028,
         least: 4,
         greatest: 4,
+        rule: Rule::Plain,
     },
 ];
 
-pub enum Sizes {
-    Between { least: u16, greatest: u16 },
+// What the list says of a type.
+pub enum Entry {
+    Listed {
+        least: u16,
+        greatest: u16,
+        rule: Rule,
+    },
     Unknown,
 }
 
-// What a value owes besides its size.
-pub enum Rule {
-    Address,
-    Text,
-    Code,
-    Types,
-    Plain,
-}
-
-// The sizes that the list allows a type.
-pub fn sizes_of(kind: u16) -> Sizes
-    ensures { λ r. ⌜ sizesSaid r ≡ sizesSaid (look rfc5389 kind) ⌝ }
+pub fn entry_of(kind: u16) -> Entry
+    ensures { λ r. ⌜ entrySaid r ≡ entrySaid (look rfc5389 kind) ⌝ }
 {
     let rows = ROWS;
     let mut i = 0;
     while i < 11 {
         let row = rows[i];
         if row.kind == kind {
-            return Sizes::Between {
+            let rule = row.rule;
+            return Entry::Listed {
                 least: row.least,
                 greatest: row.greatest,
+                rule,
             };
         }
         i += 1;
     }
-    Sizes::Unknown
+    Entry::Unknown
 }
 
-pub fn rule_of(kind: u16) -> Rule
-    ensures { λ r. ⌜ ruleNumber r ≡ ruleNumber (ruleOf kind) ⌝ }
+// The rule of an entry; a type that the list doesn't have is plain.
+pub fn entry_rule(entry: Entry) -> Rule
+    ensures { λ r. ⌜ ruleNumber r ≡ ruleNumber (ruleIn entry) ⌝ }
 {
-    match kind {
-        0x0001 => Rule::Address,
-        0x0020 => Rule::Address,
-        0x8023 => Rule::Address,
-        0x0006 => Rule::Text,
-        0x0014 => Rule::Text,
-        0x0015 => Rule::Text,
-        0x8022 => Rule::Text,
-        0x0009 => Rule::Code,
-        0x000A => Rule::Types,
-        _ => Rule::Plain,
+    match entry {
+        Entry::Unknown => Rule::Plain,
+        Entry::Listed {
+            least: _,
+            greatest: _,
+            rule,
+        } => rule,
     }
 }
 
@@ -169,6 +186,7 @@ fn rule_fault(rule: Rule, value: &[u8]) -> u8
     match rule {
         Rule::Plain => 0,
         Rule::Address => address_fault(value),
+        Rule::XorAddress => address_fault(value),
         Rule::Code => code_fault(value),
         Rule::Types => {
             if value.len() % 2 == 0 {
@@ -185,21 +203,31 @@ fn rule_fault(rule: Rule, value: &[u8]) -> u8
     }
 }
 
-// What is wrong with a value of a type: 0, or the first of 11, 12, 13 and 14 that applies.
-pub fn fault(kind: u16, value: &[u8]) -> u8
-    ensures { λ r. ⌜ r ≡ fault rfc5389 kind (now (value .entry)) ⌝ }
+// What is wrong with a value by its type's entry: 0, or the first of 11, 12, 13 and 14 that applies.
+pub fn entry_fault(entry: Entry, value: &[u8]) -> u8
+    ensures { λ r. ⌜ r ≡ entryFault entry (now (value .entry)) ⌝ }
 {
-    let sizes = sizes_of(kind);
-    match sizes {
-        Sizes::Unknown => 0,
-        Sizes::Between { least, greatest } => {
+    match entry {
+        Entry::Unknown => 0,
+        Entry::Listed {
+            least,
+            greatest,
+            rule,
+        } => {
             if value.len() < least as usize {
                 return 11;
             }
             if (greatest as usize) < value.len() {
                 return 11;
             }
-            rule_fault(rule_of(kind), value)
+            rule_fault(rule, value)
         }
     }
+}
+
+// The same by the type.
+pub fn fault(kind: u16, value: &[u8]) -> u8
+    ensures { λ r. ⌜ r ≡ fault rfc5389 kind (now (value .entry)) ⌝ }
+{
+    entry_fault(entry_of(kind), value)
 }

@@ -32,7 +32,7 @@ use Rattle.hmac.specs.Hmac.{hmacOf}
 use Rattle.hmac.specs.HmacLaws.{length-hmac}
 use Rattle.rfc5389.specs.Rows.{rfc5389, look}
 use Rattle.rfc5389.specs.declared.Row.{Row}
-use Rattle.rfc5389.specs.Fault.{ruleOf, ruleFault, sizeFault, fault}
+use Rattle.rfc5389.specs.Fault.{ruleFault, entryFault, fault}
 use Rattle.fingerprints.specs.Fingerprints.{printFault, printFaults}
 use Rattle.message.specs.Reading.{valueFaults, readingOf}
 use Rattle.message.specs.declared.Answer.the-variants.{Whole}
@@ -177,7 +177,7 @@ module _ (d : List ℕ) {t : ℕ} (h : Bytes d) (e : answer d 0 (fingerprint d) 
       (own-front d h (there d h (fingerprint d) tiny e) (fingerprint d) (sizeOf d - 20 + 8))
 
   value-right : valueFaults rfc5389 (sizeOf d) (fingerprint d) ≡ 0
-  unfolding valueFaults fingerprint fault look sizeFault ruleOf ruleFault
+  unfolding valueFaults fingerprint fault look entryFault ruleFault
   value-right = refl
 
   print-right : printFaults (bytesOf (with (held d) (fingerprint d))) (sizeOf d) (fingerprint d) ≡ 0
@@ -208,7 +208,7 @@ module _ (key d : List ℕ) {t : ℕ} (h : Bytes d) (e : answer d 0 (integrity k
   low = omega arith
 
   mac-right : valueFaults rfc5389 (sizeOf d) (integrity key d) ≡ 0
-  unfolding valueFaults integrity integrityAt fault look sizeFault ruleOf ruleFault
+  unfolding valueFaults integrity integrityAt fault look entryFault ruleFault
   mac-right = rw (length-hmac key (withLength (take (sizeOf d) d) (sizeOf d - 20 + 24)))
 
   no-print : printFaults (bytesOf (with (held d) (integrity key d))) (sizeOf d) (integrity key d) ≡ 0

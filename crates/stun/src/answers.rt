@@ -9,7 +9,7 @@ use crate::output::word;
 use attribute::Walk;
 use message::Answer;
 use net::Family;
-use rfc5389::Sizes;
+use rfc5389::Entry;
 use typed::Value;
 use wire::method::Method;
 use wire::transaction_id::TransactionId;
@@ -199,7 +199,7 @@ fn shown(
     value: &[u8],
     id: TransactionId,
 ) -> bool {
-    if let Sizes::Unknown = rfc5389::sizes_of(kind) {
+    if let Entry::Unknown = rfc5389::entry_of(kind) {
         return none;
     }
     if !none {

@@ -1,7 +1,7 @@
 // Standard input line by line.
 use crate::answers::part;
 use crate::answers::plus;
-use crate::output::fail;
+use crate::output::unread;
 use libc::STDIN_FILENO;
 
 // A line, and how much of the buffer is read. Of a long line, which is longer than the buffer, only the end is there.
@@ -112,13 +112,13 @@ fn last(f: Feed, have: usize) -> Feed {
 }
 
 // Reads once behind what is there, and answers where that ends then; behind all room where reading fails, which has been told.
-pub fn read_behind(input: &mut [u8], have: usize) -> usize {
+pub fn read_behind(fd: i32, name: &[u8], input: &mut [u8], have: usize) -> usize {
     if input.len() < have {
         return have;
     }
-    let got = libc::read(STDIN_FILENO, &mut input[have..]);
+    let got = libc::read(fd, &mut input[have..]);
     if got < 0 {
-        fail(b"stun: standard input");
+        unread(name);
         return usize::MAX;
     }
     plus(have, io::count(got, input))
@@ -129,7 +129,7 @@ fn more(f: Feed, have: usize, input: &mut [u8]) -> Feed {
     if input.len() <= have {
         return overlong(f, input);
     }
-    let end = read_behind(input, have);
+    let end = read_behind(STDIN_FILENO, b"standard input", input, have);
     if end == have {
         return last(f, have);
     }

@@ -1,12 +1,13 @@
 // One datagram from a file or from standard input, as raw bytes or as hex text.
 use crate::answers::part;
+use crate::feed::read_behind;
 use crate::is_whole;
 use crate::lines::plus;
 use crate::output::complain;
 use crate::output::complain_column;
 use crate::output::complain_number;
-use crate::output::fail;
 use crate::output::status;
+use crate::output::unread;
 
 // As much as is read at a time.
 const FILE: usize = 65600;
@@ -129,8 +130,24 @@ fn gather(s: &[u8], g: Reached, raw: &mut [u8]) -> Reached {
     g
 }
 
-// The text, of which so many bytes have been read.
-fn all_text(fd: i32, have: usize, file: &mut [u8; FILE], raw: &mut [u8]) -> Reached {
+// Reads until the buffer is full or the file ends, and answers how much there is; more than there is room for where reading fails,
+// which has been told.
+fn filled(fd: i32, name: &[u8], file: &mut [u8; FILE]) -> usize {
+    let mut have = 0;
+    let mut left = FILE;
+    while left > 0 && have < FILE {
+        let end = read_behind(fd, name, file, have);
+        if end == have {
+            return have;
+        }
+        have = end;
+        left -= 1;
+    }
+    have
+}
+
+// The text, of which so many bytes have been read. Line 0 stands for reading that failed.
+fn all_text(fd: i32, name: &[u8], have: usize, file: &mut [u8; FILE], raw: &mut [u8]) -> Reached {
     let mut g = Reached {
         digits: 0,
         last: 0,
@@ -141,13 +158,16 @@ fn all_text(fd: i32, have: usize, file: &mut [u8; FILE], raw: &mut [u8]) -> Reac
     };
     let mut n = have;
     let mut left = u64::MAX;
-    while left > 0 && n > 0 {
+    while left > 0 && 0 < n && n <= FILE {
         g = gather(part(file, 0, n), g, raw);
         if g.bad {
             return g;
         }
-        n = io::read_full(fd, file);
+        n = filled(fd, name, file);
         left -= 1;
+    }
+    if FILE < n {
+        g.line = 0;
     }
     g
 }
@@ -208,6 +228,9 @@ fn of_size(total: u64, raw: &[u8]) -> Found {
 }
 
 fn from_text(name: &[u8], g: Reached, raw: &[u8]) -> Found {
+    if g.line == 0 {
+        return nothing();
+    }
     if g.bad {
         fault_at(name, g);
         return nothing();
@@ -240,18 +263,6 @@ fn as_text(form: Form, s: &[u8]) -> bool {
     }
 }
 
-// Fills the buffer from a place on; answers how much it has then.
-fn filled(fd: i32, n: usize, file: &mut [u8]) -> usize {
-    if file.len() < n {
-        return 0;
-    }
-    let m = io::read_full(fd, &mut file[n..]);
-    if usize::MAX - n < m {
-        return 0;
-    }
-    n + m
-}
-
 // Text where the form says so.
 fn by_form(
     fd: i32,
@@ -262,33 +273,17 @@ fn by_form(
     raw: &mut [u8],
 ) -> Found {
     if as_text(form, part(file, 0, have)) {
-        let g = all_text(fd, have, file, raw);
+        let g = all_text(fd, name, have, file, raw);
         return from_text(name, g, raw);
     }
     from_raw(part(file, 0, have), raw)
-}
-
-// The system's own words on a file.
-fn unread(name: &[u8]) {
-    complain(b"stun: ");
-    fail(name);
-}
-
-// Reads as much as the buffer holds; more than that where reading fails, which has been told.
-fn begun(fd: i32, name: &[u8], file: &mut [u8]) -> usize {
-    let got = libc::read(fd, file);
-    if got < 0 {
-        unread(name);
-        return usize::MAX;
-    }
-    filled(fd, io::count(got, file), file)
 }
 
 // The datagram of an open file: its first bytes, as many as raw has room for. Above 65,555 bytes the first 65,556 are
 // answered as all are.
 fn taken(fd: i32, name: &[u8], form: Form, raw: &mut [u8]) -> Found {
     let mut file = [0u8; FILE];
-    let have = begun(fd, name, &mut file);
+    let have = filled(fd, name, &mut file);
     if FILE < have {
         return nothing();
     }

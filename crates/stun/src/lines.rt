@@ -16,6 +16,7 @@ use crate::output::complain_number;
 use crate::output::faulty;
 use crate::output::put;
 use crate::progress;
+use libc::STDIN_FILENO;
 use text::Hex;
 
 // As much of the input as is kept: more than the digits of a datagram's first bytes.
@@ -251,7 +252,7 @@ fn turn(
     raw: &mut [u8; MOST],
     buf: &mut [u8; ROOM],
 ) -> State {
-    let end = read_behind(input, c.have);
+    let end = read_behind(STDIN_FILENO, b"standard input", input, c.have);
     if end == c.have {
         return last(c, input, job, key, raw, buf);
     }

@@ -1,4 +1,9 @@
 // stun: the front door. Shows, lists, writes and checks STUN messages; every rule is the library's.
+ghost use mathlib.Core.Path.{_≡_};
+ghost use Prim.Native.Nat.{min};
+ghost use Rattle.rfc5389.specs.Rows.{rfc5389};
+ghost use Rattle.integrity.specs.Integrity.{integrityFault};
+
 mod answers;
 mod calls;
 mod dump;
@@ -20,16 +25,17 @@ use answers::MOST;
 use answers::part;
 use fields::position;
 use input::Form;
-use libc::STDOUT_FILENO;
 use output::complain;
 use output::complain_column;
 use output::fail;
 use output::status;
+use person::number;
+use say::end;
+use say::say;
 use text::Hex;
 
 fn help() {
-    io::write_all(
-        STDOUT_FILENO,
+    say(
         b"stun read FILE|- [--hex | --raw]\n\
         \x20   a datagram shown for a person, from raw bytes or hex text; ends with 1 where it is broken or refused\n\
         stun lines [--walk | --values | --key HEX] < FILE\n\
@@ -44,8 +50,9 @@ fn help() {
         stun check KEY FILE|-\n\
         \x20   is the datagram's MESSAGE-INTEGRITY made with the key, given in hex?\n\
         stun numbers [N]\n\
-        \x20   what the numbers mean, and what to do about them\n",
+        \x20   what the numbers mean, and what to do about them",
     );
+    end();
 }
 
 // An argument's place in a list of words.
@@ -133,29 +140,32 @@ fn keyed_lines() {
     lines::run(Job::Keyed, &key[0..n]);
 }
 
-fn number_name(n: u8) {
-    let name = names::number(n);
-    let letters = name.text;
-    io::write_all(STDOUT_FILENO, part(&letters, 0, name.size));
-    io::write_all(STDOUT_FILENO, b"\n");
+// What a number makes the program end with.
+pub fn status_of(n: u8) -> u8
+    ensures { λ r. ⌜ r ≡ min 1 n ⌝ }
+{
+    if n == 0 {
+        return 0;
+    }
+    1
 }
 
-fn check_datagram(d: &[u8], key: &[u8]) {
+// Answers what to end with.
+fn check_datagram(d: &[u8], key: &[u8]) -> u8
+    ensures { λ r. ⌜ r ≡ min 1 (integrityFault rfc5389 (now (d .entry)) (now (key .entry))) ⌝ }
+{
     let n = integrity::check_integrity(d, key);
-    io::write_all(STDOUT_FILENO, b"integrity ");
-    io::print_decimal(STDOUT_FILENO, n as u64);
-    io::write_all(STDOUT_FILENO, b", ");
-    number_name(n);
-    if n != 0 {
-        status(1);
-    }
+    say(b"integrity ");
+    number(n);
+    end();
+    status_of(n)
 }
 
 fn check_with(key: &[u8]) {
     let mut raw = [0u8; MOST];
     let f = input::datagram_at(3, Form::Told, &mut raw);
     if f.good {
-        check_datagram(part(&raw, 0, f.size), key);
+        status(check_datagram(part(&raw, 0, f.size), key));
     }
 }
 

@@ -165,6 +165,12 @@ pub fn fail(what: &[u8]) {
     status(2);
 }
 
+// The system's own words on a file that can't be read.
+pub fn unread(name: &[u8]) {
+    complain(b"stun: ");
+    fail(name);
+}
+
 // Writes what is left. A write that failed is told, and the status is 2; else 1 where some input was at fault.
 pub fn finish(buf: &mut [u8; ROOM]) {
     flush(buf);

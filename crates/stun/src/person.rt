@@ -251,7 +251,7 @@ fn plain(d: &[u8], at: usize, kind: u16, value: &[u8], colour: bool) {
         checked_print(d, at, value, colour);
         return;
     }
-    let rule = rfc5389::rule_of(kind);
+    let rule = rfc5389::entry_rule(rfc5389::entry_of(kind));
     match rule {
         Rule::Text => quoted(value),
         Rule::Types => list(value),

@@ -1,4 +1,8 @@
 // stun read: one datagram, shown for a person. Each line but the first stands behind a line end.
+ghost use mathlib.Core.Path.{_≡_};
+ghost use Prim.Native.Nat.{min};
+ghost use Rattle.rfc5389.specs.Rows.{rfc5389};
+ghost use Rattle.message.specs.Reading.{readingSaid, readingOf};
 use crate::answers::MOST;
 use crate::answers::minus;
 use crate::answers::part;
@@ -21,6 +25,7 @@ use crate::say::end;
 use crate::say::hex;
 use crate::say::say;
 use crate::say::sign;
+use crate::status_of;
 use crate::word_at;
 use attribute::Walk;
 use libc::STDOUT_FILENO;
@@ -137,7 +142,6 @@ fn told(d: &[u8], n: u8, place: usize, colour: bool) {
     say(b" says what to do)");
     shown(d, n, place, colour);
     end();
-    status(1);
 }
 
 fn whole(count: usize, colour: bool) {
@@ -171,7 +175,10 @@ fn refused(d: &[u8], total: u64, n: u8, colour: bool) {
     told(d, n, 0, colour);
 }
 
-fn datagram(d: &[u8], total: u64, colour: bool) {
+// Answers what to end with.
+fn datagram(d: &[u8], total: u64, colour: bool) -> u8
+    ensures { λ r. ⌜ r ≡ min 1 (readingSaid (readingOf rfc5389 (now (d .entry))) .number) ⌝ }
+{
     let r = message::read(d);
     let id = r.id;
     let answer = r.answer;
@@ -183,6 +190,7 @@ fn datagram(d: &[u8], total: u64, colour: bool) {
         } => {
             opened(d, class, method, id, total, colour);
             whole(count, colour);
+            0
         }
         Answer::Broken {
             class,
@@ -192,8 +200,12 @@ fn datagram(d: &[u8], total: u64, colour: bool) {
         } => {
             opened(d, class, method, id, total, colour);
             broken(d, reason, place, colour);
+            status_of(reason)
         }
-        Answer::Refused { number: n } => refused(d, total, n, colour),
+        Answer::Refused { number: n } => {
+            refused(d, total, n, colour);
+            status_of(n)
+        }
     }
 }
 
@@ -203,7 +215,7 @@ fn file_at(i: usize, form: Form) {
     let f = input::datagram_at(i, form, &mut raw);
     if f.good {
         let colour = libc::isatty(STDOUT_FILENO) == 1;
-        datagram(part(&raw, 0, f.size), f.total, colour);
+        status(datagram(part(&raw, 0, f.size), f.total, colour));
     }
 }
 

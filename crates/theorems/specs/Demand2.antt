@@ -23,8 +23,8 @@ use Rattle.net.specs.declared.SocketAddr.{SocketAddr}
 use Rattle.header.specs.Header.{frontOf}
 use Rattle.attribute.specs.Attribute.{Attr}
 use Rattle.attribute.specs.Visits.{Visits}
-use Rattle.rfc5389.specs.Rows.{rfc5389}
-use Rattle.rfc5389.specs.Fault.{ruleOf, fault}
+use Rattle.rfc5389.specs.Rows.{rfc5389, look, ruleIn, ruleOf}
+use Rattle.rfc5389.specs.Fault.{fault}
 use Rattle.rfc5389.specs.declared.Row.{Row}
 use Rattle.rfc5389.specs.declared.Rule.{Rule}
 use Rattle.rfc5389.specs.declared.Rule.the-variants as rule
@@ -34,7 +34,7 @@ use Rattle.message.specs.WholeLaws.{told}
 use Rattle.message.specs.declared.Reading.{Reading}
 use Rattle.typed.specs.Typed.{codeOf, without, saidBy, readOf, typedOf, partBy, partOf}
 use Rattle.typed.specs.TypedLaws.{fields, part}
-use Rattle.typed.specs.WrittenLaws.{mapped-back, alternate-back, xor-back}
+use Rattle.typed.specs.WrittenLaws as written
 use Rattle.typed.specs.declared.Value.the-variants.{Code, Plain}
 use Rattle.begin.specs.declared.Written.the-variants.{Total}
 use Rattle.plan.specs.Plan.{sizeOf}
@@ -116,24 +116,24 @@ module _ (d : List ℕ) (h : Bytes d) where
 -- what a typed append takes, typed reading gives back: an address of each kind
 pub address-back : (k : AddressKind) (a : SocketAddr) (id : TransactionId) → Sound a
     → typedOf rfc5389 (addressNumber k) (addressValue (given k a id)) id ≡ saidBy a
-unfolding given
-address-back MappedAddress a id s = mapped-back a id s
-address-back XorMappedAddress a id s = xor-back a id s
-address-back AlternateServer a id s = alternate-back a id s
+unfolding given look
+address-back MappedAddress a id s = written.plain-back rfc5389 0x0001 a id s refl
+address-back XorMappedAddress a id s = written.xor-back rfc5389 0x0020 a id s refl
+address-back AlternateServer a id s = written.plain-back rfc5389 0x8023 a id s refl
 
 -- a value that says no more than its bytes
-plain-back : (q : Rule) (k : ℕ) (v : List ℕ) (id : TransactionId) → ruleOf k ≡ q → readOf q k v id ≡ without Plain → partBy q v ≡ v
+plain-back : (q : Rule) (k : ℕ) (v : List ℕ) (id : TransactionId) → ruleOf rfc5389 k ≡ q → readOf q v id ≡ without Plain → partBy q v ≡ v
     → refusal rfc5389 k v ≡ 0 → (typedOf rfc5389 k v id ≡ without Plain) × (partOf rfc5389 k v ≡ v)
 plain-back q k v id e r p f =
     let z : fault rfc5389 k v ≡ 0 = no-fault rfc5389 k v f in
-    (fields rfc5389 k v z id ∙ ap (λ (x : Rule). readOf x k v id) e ∙ r, part rfc5389 k v z ∙ ap (λ (x : Rule). partBy x v) e ∙ p)
+    (fields rfc5389 k v z id ∙ ap (λ (x : Rule). readOf x v id) e ∙ r, part rfc5389 k v z ∙ ap (λ (x : Rule). partBy x v) e ∙ p)
 
 pub text-back : (k : TextKind) (v : List ℕ) (id : TransactionId) → refusal rfc5389 (textNumber k) v ≡ 0
     → (typedOf rfc5389 (textNumber k) v id ≡ without Plain) × (partOf rfc5389 (textNumber k) v ≡ v)
-unfolding readOf partBy ruleOf
+unfolding readOf partBy look ruleIn
 text-back k v id f = plain-back rule.Text (textNumber k) v id (is-text k) refl refl f
   where
-    is-text : (k : TextKind) → ruleOf (textNumber k) ≡ rule.Text
+    is-text : (k : TextKind) → ruleOf rfc5389 (textNumber k) ≡ rule.Text
     is-text Username = refl
     is-text Realm = refl
     is-text Nonce = refl
@@ -141,13 +141,13 @@ text-back k v id f = plain-back rule.Text (textNumber k) v id (is-text k) refl r
 
 pub types-back : (v : List ℕ) (id : TransactionId) → refusal rfc5389 0x000A v ≡ 0
     → (typedOf rfc5389 0x000A v id ≡ without Plain) × (partOf rfc5389 0x000A v ≡ v)
-unfolding readOf partBy ruleOf
+unfolding readOf partBy look ruleIn
 types-back v id f = plain-back rule.Types 0x000A v id refl refl refl f
 
 -- an error code with its phrase
 pub code-back : (c : ℕ) (s : List ℕ) (id : TransactionId) → codeRefusal rfc5389 c s ≡ 0
     → (typedOf rfc5389 0x0009 (codeValue c s) id ≡ without (Code c)) × (partOf rfc5389 0x0009 (codeValue c s) ≡ s)
-unfolding codeRefusal codeValue typedOf partOf readOf partBy ruleOf codeOf
+unfolding codeRefusal codeValue typedOf partOf readOf partBy look ruleIn codeOf
 code-back c s id e = low (ltb c 300) refl e
   where
     number : 300 ≤ c → c ≤ 699 → c / 100 % 8 * 100 + c % 100 ≡ c

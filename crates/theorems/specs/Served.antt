@@ -12,7 +12,7 @@ use Rattle.wire.specs.declared.transaction_id.TransactionId.{TransactionId}
 use Rattle.attribute.specs.Attribute.{Attr}
 use Rattle.unicode.specs.Utf8.{isUtf8}
 use Rattle.rfc5389.specs.Rows.{look, rfc5389}
-use Rattle.rfc5389.specs.Fault.{ruleOf, ruleFault, sizeFault, fault}
+use Rattle.rfc5389.specs.Fault.{ruleFault, entryFault, fault}
 use Rattle.rfc5389.specs.declared.Row.{Row}
 use Rattle.value.specs.First.{starts, first}
 use Rattle.value.specs.WholeLaws.{served}
@@ -26,7 +26,7 @@ taken rows k d {p} {a} id e = typed-number rows k (a .value) id ∙ served rows 
 
 -- so of the first REALM: it has at most 127 bytes and is UTF-8
 text : (v : List ℕ) → fault rfc5389 0x0014 v ≡ 0 → (length v ≤ 127) × (isUtf8 v ≡ true)
-unfolding fault look sizeFault ruleOf ruleFault
+unfolding fault look entryFault ruleFault
 text v e = go (ltb (length v) 0) (ltb 127 (length v)) (isUtf8 v) refl refl e
   where
     go : (a b c : Bool) → ltb 127 (length v) ≡ b → isUtf8 v ≡ c → _≡_ {A = ℕ} (pick a 11 (pick b 11 (pick c 0 14))) 0

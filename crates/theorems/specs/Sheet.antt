@@ -15,12 +15,12 @@ use Rattle.net.specs.Net.{xored, addrXor}
 use Rattle.attribute.specs.Attribute.{padded, Attr, stop, more, parse}
 use Rattle.attribute.specs.Scan.{scan, scanned}
 use Rattle.unicode.specs.Utf8.{isUtf8, goes}
-use Rattle.rfc5389.specs.Rows.{rfc5389, look, sizesSaid}
-use Rattle.rfc5389.specs.Fault.{fault, ruleOf, sizeFault, ruleFault, addressFault, codeFault}
+use Rattle.rfc5389.specs.Rows.{rfc5389, look, entrySaid, ruleIn}
+use Rattle.rfc5389.specs.Fault.{fault, entryFault, ruleFault, addressFault, codeFault}
 use Rattle.fingerprints.specs.Fingerprints.{printFaults, printFault}
 use Rattle.message.specs.Reading.{answerSaid, readingOf, outcome, valueFaults}
 use Rattle.value.specs.First.{firstFrom, firstIn, isWhole, first, valueOf}
-use Rattle.typed.specs.Typed.{valueSaid, typedSaid, ipOf, addressOf, codeOf, saidBy, plainOf, readOf, typedOf}
+use Rattle.typed.specs.Typed.{valueSaid, typedSaid, ipOf, addressOf, codeOf, saidBy, readOf, typedOf}
 use Rattle.begin.specs.declared.Written.the-variants.{Total, Refused}
 use Rattle.plan.specs.Plan.{messageFault, covers, planOf}
 use Rattle.append.specs.Append.{attr, answered, written, planFor, answer, appended}
@@ -50,7 +50,7 @@ Holds (numbers c m t) = (typeOf c m ≡ t) × (classOf t ≡ c) × (methodOf t �
 Holds (reads d s) = answerSaid (readingOf rfc5389 d .answer) [] ≡ s
 Holds (serves d k s) = typedSaid (typedOf rfc5389 k (valueOf (first rfc5389 k d)) (readingOf rfc5389 d .id)) ≡ s
 Holds (keeps b a) =
-    (sizesSaid (look rfc5389 (a .kind)) ≡ says 1 0 []) × (parse 0 b ≡ more a (stop []))
+    (entrySaid (look rfc5389 (a .kind)) ≡ says 1 0 []) × (parse 0 b ≡ more a (stop []))
     × (appended (header 1 0 ++ replicate {A = ℕ} (length b) 0) 0 a ≡ header 1 (length b) ++ b)
 Holds (fills n t) =
     (b : List ℕ) → t ≤ length b
@@ -105,6 +105,6 @@ sheet =
     ∷ []
 
 pub holds : Each sheet
-unfolding typeOf classOf methodOf answerSaid readingOf outcome scanned scan parse valueFaults printFaults printFault fault look ruleOf sizeFault ruleFault addressFault codeFault isUtf8 goes headerFault frontFault be16 cookieAt same classNumbered idOf first firstIn firstFrom isWhole valueOf typedSaid valueSaid typedOf readOf saidBy plainOf addressOf codeOf ipOf put fitsAt laid addrXor xored sizesSaid appended planFor planOf written answered messageFault covers
+unfolding typeOf classOf methodOf answerSaid readingOf outcome scanned scan parse valueFaults printFaults printFault fault look ruleIn entryFault ruleFault addressFault codeFault isUtf8 goes headerFault frontFault be16 cookieAt same classNumbered idOf first firstIn firstFrom isWhole valueOf typedSaid valueSaid typedOf readOf saidBy addressOf codeOf ipOf put fitsAt laid addrXor xored entrySaid appended planFor planOf written answered messageFault covers
 holds =
     ((refl, refl, refl), ((refl, refl, refl), ((refl, refl, refl), ((refl, refl, refl), ((refl, refl, refl), ((refl, refl, refl), ((refl, refl, refl), ((refl, refl, refl), (refl, (refl, (refl, (refl, (refl, (refl, (refl, ((refl, refl, refl), (refl, (refl, (refl, (refl, (longest, tt)))))))))))))))))))))

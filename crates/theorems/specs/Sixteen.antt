@@ -28,12 +28,12 @@ use Rattle.attribute.specs.PassLaws.{passed-all}
 use Rattle.unicode.specs.Utf8.{isUtf8}
 use Rattle.fingerprint.specs.Fingerprint.{fingerprintAt}
 use Rattle.rfc5389.specs.Rows.{look, rfc5389}
-use Rattle.rfc5389.specs.Fault.{ruleOf, addressFault, codeFault, ruleFault, sizeFault, fault}
+use Rattle.rfc5389.specs.Fault.{addressFault, codeFault, ruleFault, entryFault, fault}
 use Rattle.rfc5389.specs.declared.Row.{Row}
 use Rattle.rfc5389.specs.declared.Rule.{Rule}
-use Rattle.rfc5389.specs.declared.Rule.the-variants.{Address, Text, Code, Types, Plain}
-use Rattle.rfc5389.specs.declared.Sizes.{Sizes}
-use Rattle.rfc5389.specs.declared.Sizes.the-variants.{Between, Unknown}
+use Rattle.rfc5389.specs.declared.Rule.the-variants.{Address, XorAddress, Text, Code, Types, Plain}
+use Rattle.rfc5389.specs.declared.Entry.{Entry}
+use Rattle.rfc5389.specs.declared.Entry.the-variants.{Listed, Unknown}
 use Rattle.fingerprints.specs.Fingerprints.{printFault, printFaults}
 use Rattle.message.specs.Reading.{valueFaults, andThen, outcome, answered, answerSaid, readingSaid, readingOf}
 use Rattle.message.specs.WholeLaws.{number-by, judged-answer, refused-answer}
@@ -56,12 +56,17 @@ header-small d =
     (either (ltb (length d) 20) (small 1 (omega arith))
     (either (leb 16384 (be16 d 0)) (small 2 (omega arith)) (either (cookieAt d 4) (small 0 (omega arith)) (small 3 (omega arith)))))
 
-rule-small : (q : Rule) (v : List ℕ) → Small (ruleFault q v)
-unfolding ruleFault addressFault codeFault
-rule-small Address v = either (eqb (length v) 8) (family 1) (either (eqb (length v) 20) (family 2) (small 11 (omega arith)))
+address-small : (v : List ℕ) → Small (addressFault v)
+unfolding addressFault
+address-small v = either (eqb (length v) 8) (family 1) (either (eqb (length v) 20) (family 2) (small 11 (omega arith)))
   where
     family : (k : ℕ) → Small (pick (eqb (getD v 1 0) k) 0 12)
     family k = either (eqb (getD v 1 0) k) (small 0 (omega arith)) (small 12 (omega arith))
+
+rule-small : (q : Rule) (v : List ℕ) → Small (ruleFault q v)
+unfolding ruleFault codeFault
+rule-small Address v = address-small v
+rule-small XorAddress v = address-small v
 rule-small Text v = either (isUtf8 v) (small 0 (omega arith)) (small 14 (omega arith))
 rule-small Code v =
     either (ltb (length v) 4) (small 11 (omega arith))
@@ -74,14 +79,14 @@ rule-small Code v =
 rule-small Types v = either (eqb (length v % 2) 0) (small 0 (omega arith)) (small 11 (omega arith))
 rule-small Plain v = small 0 (omega arith)
 
-size-small : (s : Sizes) (q : Rule) (v : List ℕ) → Small (sizeFault s q v)
-unfolding sizeFault
-size-small Unknown q v = small 0 (omega arith)
-size-small (Between l g) q v = either (ltb (length v) l) (small 11 (omega arith)) (either (ltb g (length v)) (small 11 (omega arith)) (rule-small q v))
+size-small : (x : Entry) (v : List ℕ) → Small (entryFault x v)
+unfolding entryFault
+size-small Unknown v = small 0 (omega arith)
+size-small (Listed l g q) v = either (ltb (length v) l) (small 11 (omega arith)) (either (ltb g (length v)) (small 11 (omega arith)) (rule-small q v))
 
 values-small : (rows : List Row) (p : ℕ) (a : Attr) → valueFaults rows p a < 16
 unfolding valueFaults fault
-values-small rows p a = size-small (look rows (a .kind)) (ruleOf (a .kind)) (a .value) .is
+values-small rows p a = size-small (look rows (a .kind)) (a .value) .is
 
 -- a fault that a scan finds is 10 or one of its faults
 scan-small : (f : ℕ → Attr → ℕ) → ((p : ℕ) (a : Attr) → f p a < 16) → (n p : ℕ) (b : Body) {r q : ℕ} → scan f n p b ≡ Fault r q → r < 16
@@ -96,12 +101,12 @@ scan-small f h n p (more a b) {r} {q} e = go (eqb (f p a) 0) e (scan-small f h (
     go false g ih = let z : f p a ≡ r = cc in omega (arith, h p a)
 
 -- a FINGERPRINT without a fault of its value has four bytes
-module _ (rows : List Row) (four-only : look rows 0x8028 ≡ Between 4 4) where
+module _ (rows : List Row) (rule : Rule) (four-only : look rows 0x8028 ≡ Listed 4 4 rule) where
   four-bytes : (v : List ℕ) → fault rows 0x8028 v ≡ 0 → length v ≡ 4
-  unfolding fault sizeFault
-  four-bytes v e = go (ltb (length v) 4) (ltb 4 (length v)) refl refl (ap (λ s. sizeFault s (ruleOf 0x8028) v) (sym four-only) ∙ e)
+  unfolding fault entryFault
+  four-bytes v e = go (ltb (length v) 4) (ltb 4 (length v)) refl refl (ap (λ x. entryFault x v) (sym four-only) ∙ e)
     where
-      go : (a b : Bool) → ltb (length v) 4 ≡ a → ltb 4 (length v) ≡ b → pick a 11 (pick b 11 (ruleFault (ruleOf 0x8028) v)) ≡ 0 → length v ≡ 4
+      go : (a b : Bool) → ltb (length v) 4 ≡ a → ltb 4 (length v) ≡ b → pick a 11 (pick b 11 (ruleFault rule v)) ≡ 0 → length v ≡ 4
       go true b p q f = absurd (omega arith)
       go false true p q f = absurd (omega arith)
       go false false p q f = omega (arith, ltb-false (length v) 4 p, ltb-false 4 (length v) q)
@@ -168,6 +173,6 @@ module _ (rows : List Row) (four-only : look rows 0x8028 ≡ Between 4 4) where
             let z : headerFault d ≡ 0 = omega arith in
             scans z _ _ _ _ refl refl _ (sym (number-by rows d (judged-answer rows d z)) ∙ w)
 
-pub rfc5389-four : look rfc5389 0x8028 ≡ Between 4 4
+pub rfc5389-four : look rfc5389 0x8028 ≡ Listed 4 4 Plain
 unfolding look
 rfc5389-four = refl

@@ -14,13 +14,14 @@ use Rattle.net.specs.Net.{addrXor}
 use Rattle.net.specs.declared.Family.{Family}
 use Rattle.net.specs.declared.Family.the-variants.{Ipv4, Ipv6}
 use Rattle.net.specs.declared.SocketAddr.{SocketAddr}
-use Rattle.rfc5389.specs.Rows.{rfc5389}
-use Rattle.rfc5389.specs.Fault.{ruleOf, fault}
+use Rattle.rfc5389.specs.Rows.{rfc5389, look, ruleIn}
+use Rattle.rfc5389.specs.Fault.{entryFault, fault}
+use Rattle.rfc5389.specs.declared.Entry.{Entry}
 use Rattle.rfc5389.specs.declared.Rule.{Rule}
 use Rattle.rfc5389.specs.declared.Rule.the-variants as rule
 use Rattle.typed.specs.declared.Value.the-variants.{Address, Code, Plain, Refused}
 use Rattle.typed.specs.declared.Typed.{Typed}
-use Rattle.typed.specs.Typed.{familyNumbered, ipOf, codeOf, addressOf, without, saidBy, plainOf, readOf, typedOf}
+use Rattle.typed.specs.Typed.{familyNumbered, ipOf, codeOf, addressOf, without, saidBy, readOf, typedOf}
 
 pub no-byte : (v : List ℕ) (i : ℕ) → length v ≤ i → 0 ≡ getD v i 0
 no-byte v i h = sym (List·getD-eq-default v 0 {n = i} h)
@@ -46,32 +47,33 @@ ip v h e =
     let t : take (length v - 4) (drop 4 v) ≡ drop 4 v = take-all (length v - 4) (drop 4 v) (simp length-drop (omega arith)) in
     e ∙ ap (put (replicate 16 0) 0) t
 
-module _ (k : ℕ) (a : SocketAddr) (id : TransactionId) where
-  pub plain-xor : {r : SocketAddr} → k ≡ 0x0020 → r ≡ addrXor a id → r ≡ plainOf k a id
-  unfolding plainOf
-  plain-xor e f = simp (eq-eqb k 0x0020 e) f
+module _ (k : ℕ) (v : List ℕ) {x : Entry} (w : x ≡ look rfc5389 k) {f : ℕ} (e : f ≡ entryFault x v) where
+  is-fault : f ≡ fault rfc5389 k v
+  unfolding fault
+  is-fault = e ∙ ap (λ (y : Entry). entryFault y v) w
 
-  pub plain-other : (k ≡ 0x0020 → ⊥) → a ≡ plainOf k a id
-  unfolding plainOf
-  plain-other e = simp (ne-eqb k 0x0020 e)
-
-module _ (k : ℕ) (v : List ℕ) {f : ℕ} (e : f ≡ fault rfc5389 k v) where
   pub faulty : (id : TransactionId) {r : Typed} → (f ≡ 0 → ⊥) → r ≡ without (Refused f) → r ≡ typedOf rfc5389 k v id
   unfolding typedOf
   faulty id n g =
-      let m : fault rfc5389 k v ≡ 0 → ⊥ = λ z. n (e ∙ z) in
-      simp (ne-eqb (fault rfc5389 k v) 0 m) (g ∙ ap (λ (x : ℕ). without (Refused x)) e)
+      let m : fault rfc5389 k v ≡ 0 → ⊥ = λ z. n (is-fault ∙ z) in
+      simp (ne-eqb (fault rfc5389 k v) 0 m) (g ∙ ap (λ (y : ℕ). without (Refused y)) is-fault)
 
-  module _ (z : f ≡ 0) {q : Rule} (g : q ≡ ruleOf k) where
-    by-rule : (id : TransactionId) {r : Typed} → r ≡ readOf q k v id → r ≡ typedOf rfc5389 k v id
+  module _ (z : f ≡ 0) {q : Rule} (g : q ≡ ruleIn x) where
+    by-rule : (id : TransactionId) {r : Typed} → r ≡ readOf q v id → r ≡ typedOf rfc5389 k v id
     unfolding typedOf
-    by-rule id h = simp (eq-eqb (fault rfc5389 k v) 0 (sym e ∙ z)) (h ∙ ap (λ (x : Rule). readOf x k v id) g)
+    by-rule id h =
+        simp (eq-eqb (fault rfc5389 k v) 0 (sym is-fault ∙ z)) (h ∙ ap (λ (y : Rule). readOf y v id) (g ∙ ap ruleIn w))
 
-    pub address : (id : TransactionId) {a b : SocketAddr} {r : Typed} → q ≡ rule.Address → a ≡ addressOf v → b ≡ plainOf k a id → r ≡ saidBy b → r ≡ typedOf rfc5389 k v id
+    pub address : (id : TransactionId) {a : SocketAddr} {r : Typed} → q ≡ rule.Address → a ≡ addressOf v → r ≡ saidBy a → r ≡ typedOf rfc5389 k v id
     unfolding readOf
-    address id i m n o = by-rule id (rw i (o ∙ ap saidBy (n ∙ ap (λ (x : SocketAddr). plainOf k x id) m)))
+    address id i m o = by-rule id (rw i (o ∙ ap saidBy m))
 
-    pub code : (id : TransactionId) {x y : ℕ} {r : Typed} → q ≡ rule.Code → x ≡ getD v 2 0 → y ≡ getD v 3 0 → r ≡ without (Code (x % 8 * 100 + y)) → r ≡ typedOf rfc5389 k v id
+    pub xor-address : (id : TransactionId) {a b : SocketAddr} {r : Typed} → q ≡ rule.XorAddress → a ≡ addressOf v → b ≡ addrXor a id → r ≡ saidBy b
+        → r ≡ typedOf rfc5389 k v id
+    unfolding readOf
+    xor-address id i m n o = by-rule id (rw i (o ∙ ap saidBy (n ∙ ap (λ (y : SocketAddr). addrXor y id) m)))
+
+    pub code : (id : TransactionId) {y z : ℕ} {r : Typed} → q ≡ rule.Code → y ≡ getD v 2 0 → z ≡ getD v 3 0 → r ≡ without (Code (y % 8 * 100 + z)) → r ≡ typedOf rfc5389 k v id
     unfolding readOf codeOf
     code id i m n o = by-rule id (rw i (o ∙ ap₂ (λ (a b : ℕ). without (Code (a % 8 * 100 + b))) m n))
 

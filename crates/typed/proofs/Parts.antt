@@ -1,59 +1,42 @@
 -- What `part_of` returns, case by case: the bytes, and where they lie.
-use Prim.Native.Nat.{ℕ, _+_, _-_, _≤_}
+use Prim.Native.Nat.{ℕ, _+_, _-_, _%_, _≤_}
 use mathlib.Core.List.{List, []}
 use mathlib.Core.Bool.{Bool, true, false}
 use mathlib.Core.Path.{_≡_, refl, sym, ap, _∙_}
 use native.Mathlib.Omega.{arith}
-use borrow.Author.Tests.{eq-eqb, ne-eqb, eqb-true, ltb-false}
-use lib.ListN.{length, take, drop, length-drop}
+use borrow.Author.Tests.{eq-eqb, ne-eqb, ltb-false}
+use lib.ListN.{length, getD, take, drop, length-drop}
 use lib.Seq.{take-all}
-use lib.Dec.{eqb, ltb}
+use lib.Dec.{ltb}
 use Rattle.base.specs.Choice.{pick}
-use Rattle.rfc5389.specs.Rows.{look, rfc5389}
-use Rattle.rfc5389.specs.Fault.{ruleOf, ruleFault, sizeFault, fault}
+use Rattle.unicode.specs.Utf8.{isUtf8}
+use Rattle.rfc5389.specs.Rows.{look, rfc5389, ruleIn, ruleOf}
+use Rattle.rfc5389.specs.Fault.{codeFault, ruleFault, entryFault, fault}
+use Rattle.rfc5389.specs.declared.Entry.{Entry}
+use Rattle.rfc5389.specs.declared.Entry.the-variants.{Listed, Unknown}
 use Rattle.rfc5389.specs.declared.Rule.{Rule}
-use Rattle.rfc5389.specs.declared.Rule.the-variants.{Address, Text, Code, Types, Plain}
+use Rattle.rfc5389.specs.declared.Rule.the-variants.{Address, XorAddress, Text, Code, Types, Plain}
 use Rattle.typed.specs.Typed.{partBy, partOf, startBy, partAt}
 
--- only ERROR-CODE has the rule of a code
-module _ (k : ℕ) where
-  is-code : {x : Rule} → (x ≡ Code → ⊥) → (b : Bool) {y : Rule} → pick b x y ≡ Code → y ≡ Code
-  is-code n true e = absurd (n e)
-  is-code n false e = e
-
-  not-address : Address ≡ Code → ⊥
-  not-address e = let z : _≡_ {A = ℕ} 0 1 = cc in omega arith
-
-  not-text : Text ≡ Code → ⊥
-  not-text e = let z : _≡_ {A = ℕ} 0 1 = cc in omega arith
-
-  last : (a b : Bool) → pick a Code (pick b Types Plain) ≡ Code → a ≡ true
-  last true b e = refl
-  last false true e = let z : _≡_ {A = ℕ} 0 1 = cc in absurd (omega arith)
-  last false false e = let z : _≡_ {A = ℕ} 0 1 = cc in absurd (omega arith)
-
-  pub only-code : ruleOf k ≡ Code → k ≡ 0x0009
-  unfolding ruleOf
-  only-code e =
-      eqb-true k 0x0009
-      (last (eqb k 0x0009) (eqb k 0x000A)
-      (is-code not-text (eqb k 0x8022)
-      (is-code not-text (eqb k 0x0015)
-      (is-code not-text (eqb k 0x0014)
-      (is-code not-text (eqb k 0x0006)
-      (is-code not-address (eqb k 0x8023)
-      (is-code not-address (eqb k 0x0020)
-      (is-code not-address (eqb k 0x0001) e))))))))
-
-four : (v : List ℕ) → fault rfc5389 0x0009 v ≡ 0 → 4 ≤ length v
-unfolding fault look sizeFault
-four v e = go (ltb (length v) 4) refl e
+-- a value that passes the rule of a code has four bytes
+four : (x : Entry) (v : List ℕ) → ruleIn x ≡ Code → entryFault x v ≡ 0 → 4 ≤ length v
+unfolding ruleIn entryFault ruleFault codeFault
+four Unknown v h e = let z : _≡_ {A = ℕ} 0 1 = cc in absurd (omega arith)
+four (Listed l g q) v h e = go (ltb (length v) l) (ltb g (length v)) (ltb (length v) 4) refl (rw h at e)
   where
-    go : (b : Bool) → ltb (length v) 4 ≡ b → pick b 11 (pick (ltb 131 (length v)) 11 (ruleFault (ruleOf 0x0009) v)) ≡ 0 → 4 ≤ length v
-    go true f g = absurd (omega arith)
-    go false f g = ltb-false (length v) 4 f
+    go : (a b c : Bool) → ltb (length v) 4 ≡ c
+        → _≡_ {A = ℕ} (pick a 11 (pick b 11 (pick c 11 (pick (ltb (getD v 2 0 % 8) 3) 13 (pick (ltb 6 (getD v 2 0 % 8)) 13 (pick (ltb 99 (getD v 3 0)) 13 (pick (isUtf8 (drop 4 v)) 0 14))))))) 0
+        → 4 ≤ length v
+    go true b c f w = absurd (omega arith)
+    go false true c f w = absurd (omega arith)
+    go false false true f w = absurd (omega arith)
+    go false false false f w = ltb-false (length v) 4 f
 
-module _ (k : ℕ) (v : List ℕ) {f : ℕ} (e : f ≡ fault rfc5389 k v) where
+module _ (k : ℕ) (v : List ℕ) {x : Entry} (w : x ≡ look rfc5389 k) {f : ℕ} (i : f ≡ entryFault x v) where
+  e : f ≡ fault rfc5389 k v
+  unfolding fault
+  e = i ∙ ap (λ (y : Entry). entryFault y v) w
+
   module _ (n : f ≡ 0 → ⊥) where
     pub faulty : [] ≡ partOf rfc5389 k v
     unfolding partOf
@@ -63,7 +46,10 @@ module _ (k : ℕ) (v : List ℕ) {f : ℕ} (e : f ≡ fault rfc5389 k v) where
     unfolding partAt
     faulty-at b o = let m : fault rfc5389 k v ≡ 0 → ⊥ = λ z. n (e ∙ z) in simp (ne-eqb (fault rfc5389 k v) 0 m)
 
-  module _ (z : f ≡ 0) {q : Rule} (g : q ≡ ruleOf k) where
+  module _ (z : f ≡ 0) {q : Rule} (u : q ≡ ruleIn x) where
+    g : q ≡ ruleOf rfc5389 k
+    g = u ∙ ap ruleIn w
+
     by-rule : (r : Rule) → q ≡ r → partBy r v ≡ partOf rfc5389 k v
     unfolding partOf
     by-rule r h = simp (eq-eqb (fault rfc5389 k v) 0 (sym e ∙ z)) (ap (λ (x : Rule). partBy x v) (sym h ∙ g))
@@ -80,9 +66,17 @@ module _ (k : ℕ) (v : List ℕ) {f : ℕ} (e : f ≡ fault rfc5389 k v) where
     unfolding startBy
     address-at b o h = at-rule Address b o h
 
+    pub xor-address : q ≡ XorAddress → [] ≡ partOf rfc5389 k v
+    unfolding partBy
+    xor-address h = by-rule XorAddress h
+
+    pub xor-address-at : (b o : ℕ) → q ≡ XorAddress → _≡_ {A = ℕ × ℕ} (b, 0 + o) (b, partAt rfc5389 k v + o)
+    unfolding startBy
+    xor-address-at b o h = at-rule XorAddress b o h
+
     module _ (h : q ≡ Code) where
       pub room : 4 ≤ length v
-      room = four v (ap (λ (x : ℕ). fault rfc5389 x v) (sym (only-code k (sym g ∙ h))) ∙ sym e ∙ z)
+      room = four x v (sym u ∙ h) (sym i ∙ z)
 
       pub phrase : take (length v - 4) (drop 4 v) ≡ partOf rfc5389 k v
       unfolding partBy

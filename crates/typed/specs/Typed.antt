@@ -12,7 +12,8 @@ use Rattle.net.specs.Net.{familyNumber, addrXor}
 use Rattle.net.specs.declared.Family.{Family}
 use Rattle.net.specs.declared.Family.the-variants.{Ipv4, Ipv6}
 use Rattle.net.specs.declared.SocketAddr.{SocketAddr}
-use Rattle.rfc5389.specs.Fault.{ruleOf, fault}
+use Rattle.rfc5389.specs.Rows.{ruleOf}
+use Rattle.rfc5389.specs.Fault.{fault}
 use Rattle.rfc5389.specs.declared.Row.{Row}
 use Rattle.rfc5389.specs.declared.Rule.{Rule}
 use Rattle.rfc5389.specs.declared.Rule.the-variants as rule
@@ -52,40 +53,39 @@ without x = record { value = x; ip = replicate 16 0 }
 unfoldable pub saidBy : SocketAddr → Typed
 saidBy a = record { value = Address (a .family) (a .port); ip = a .ip }
 
--- the address of a type: XOR-MAPPED-ADDRESS is in XOR form, which is undone
-unfoldable pub plainOf : ℕ → SocketAddr → TransactionId → SocketAddr
-plainOf k a id = pick (eqb k 0x0020) (addrXor a id) a
-
--- what a value without fault says, by the rule of its type
-unfoldable pub readOf : Rule → ℕ → List ℕ → TransactionId → Typed
-readOf rule.Address k v id = saidBy (plainOf k (addressOf v) id)
-readOf rule.Code k v id = without (Code (codeOf v))
-readOf rule.Text k v id = without Plain
-readOf rule.Types k v id = without Plain
-readOf rule.Plain k v id = without Plain
+-- what a value without fault says, by the rule of its type: the XOR form is undone
+unfoldable pub readOf : Rule → List ℕ → TransactionId → Typed
+readOf rule.Address v id = saidBy (addressOf v)
+readOf rule.XorAddress v id = saidBy (addrXor (addressOf v) id)
+readOf rule.Code v id = without (Code (codeOf v))
+readOf rule.Text v id = without Plain
+readOf rule.Types v id = without Plain
+readOf rule.Plain v id = without Plain
 
 -- a value at fault says 11 to 14, and all else is nought
 unfoldable pub typedOf : List Row → ℕ → List ℕ → TransactionId → Typed
-typedOf rows k v id = pick (eqb (fault rows k v) 0) (readOf (ruleOf k) k v id) (without (Refused (fault rows k v)))
+typedOf rows k v id = pick (eqb (fault rows k v) 0) (readOf (ruleOf rows k) v id) (without (Refused (fault rows k v)))
 
 -- the part of the value that goes with it: the phrase of an ERROR-CODE, nothing of an address, and else the value itself
 unfoldable pub partBy : Rule → List ℕ → List ℕ
 partBy rule.Address v = []
+partBy rule.XorAddress v = []
 partBy rule.Code v = drop 4 v
 partBy rule.Text v = v
 partBy rule.Types v = v
 partBy rule.Plain v = v
 
 unfoldable pub partOf : List Row → ℕ → List ℕ → List ℕ
-partOf rows k v = pick (eqb (fault rows k v) 0) (partBy (ruleOf k) v) []
+partOf rows k v = pick (eqb (fault rows k v) 0) (partBy (ruleOf rows k) v) []
 
 -- where it starts in the value
 unfoldable pub startBy : Rule → ℕ
 startBy rule.Address = 0
+startBy rule.XorAddress = 0
 startBy rule.Code = 4
 startBy rule.Text = 0
 startBy rule.Types = 0
 startBy rule.Plain = 0
 
 unfoldable pub partAt : List Row → ℕ → List ℕ → ℕ
-partAt rows k v = pick (eqb (fault rows k v) 0) (startBy (ruleOf k)) 0
+partAt rows k v = pick (eqb (fault rows k v) 0) (startBy (ruleOf rows k)) 0

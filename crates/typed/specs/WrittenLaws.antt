@@ -16,12 +16,13 @@ use Rattle.net.specs.NetLaws.{length-xored, addr-twice}
 use Rattle.net.specs.declared.Family.{Family}
 use Rattle.net.specs.declared.Family.the-variants.{Ipv4, Ipv6}
 use Rattle.net.specs.declared.SocketAddr.{SocketAddr}
-use Rattle.rfc5389.specs.Rows.{look, rfc5389}
-use Rattle.rfc5389.specs.Fault.{ruleOf, fault}
-use Rattle.rfc5389.specs.AddressLaws.{ip-small, ip-length, address-right}
-use Rattle.rfc5389.specs.declared.Rule.the-variants.{Address}
-use Rattle.rfc5389.specs.declared.Sizes.the-variants.{Between}
-use Rattle.typed.specs.Typed.{familyNumbered, ipOf, addressOf, saidBy, plainOf, readOf, typedOf}
+use Rattle.rfc5389.specs.Rows.{look, ruleIn}
+use Rattle.rfc5389.specs.Fault.{fault}
+use Rattle.rfc5389.specs.AddressLaws.{ip-small, ip-length, address-right, xor-address-right}
+use Rattle.rfc5389.specs.declared.Rule.the-variants.{Address, XorAddress}
+use Rattle.rfc5389.specs.declared.Entry.the-variants.{Listed}
+use Rattle.rfc5389.specs.declared.Row.{Row}
+use Rattle.typed.specs.Typed.{familyNumbered, ipOf, addressOf, saidBy, readOf, typedOf}
 use Rattle.typed.specs.TypedLaws.{fields}
 
 same-family : (f : Family) → familyNumbered (familyNumber f) ≡ f
@@ -51,22 +52,6 @@ module _ (a : SocketAddr) (s : Sound a) where
       let p : a .port / 256 * 256 + a .port % 256 ≡ a .port = omega arith in
       rw (same-family (a .family), p, same-ip)
 
--- any address that is written is read, and the XOR form of a type that has it is undone
-written : (k : ℕ) (a : SocketAddr) (id : TransactionId) → Sound a → look rfc5389 k ≡ Between 8 20 → ruleOf k ≡ Address
-    → typedOf rfc5389 k (addressValue a) id ≡ saidBy (plainOf k a id)
-unfolding fault readOf
-written k a id s e f =
-    let z : fault rfc5389 k (addressValue a) ≡ 0 = rw (e, f) (address-right a (s .size)) in
-    fields rfc5389 k (addressValue a) z id ∙ rw (f, address-back a s)
-
-pub mapped-back : (a : SocketAddr) (id : TransactionId) → Sound a → typedOf rfc5389 0x0001 (addressValue a) id ≡ saidBy a
-unfolding look ruleOf plainOf
-mapped-back a id s = written 0x0001 a id s refl refl
-
-pub alternate-back : (a : SocketAddr) (id : TransactionId) → Sound a → typedOf rfc5389 0x8023 (addressValue a) id ≡ saidBy a
-unfolding look ruleOf plainOf
-alternate-back a id s = written 0x8023 a id s refl refl
-
 -- bytes behind the mask stay
 xored-rest : (s k : List ℕ) (n : ℕ) → length k ≤ n → drop n (xored s k) ≡ drop n s
 unfolding xored
@@ -83,7 +68,17 @@ xor-sound a id s = record {
       xored-rest (a .ip) (take (ipSize (a .family)) (cookie ++ id .bytes)) (ipSize (a .family)) (simp length-take (omega arith)) ∙ s .behind;
 }
 
--- the XOR form read gives back what was written, for any address and ID
-pub xor-back : (a : SocketAddr) (id : TransactionId) → Sound a → typedOf rfc5389 0x0020 (addressValue (addrXor a id)) id ≡ saidBy a
-unfolding look ruleOf plainOf
-xor-back a id s = written 0x0020 (addrXor a id) id (xor-sound a id s) refl refl ∙ ap saidBy (addr-twice a id)
+-- written in the form of its rule, an address is read as it was: over the list of types and the kind
+module _ (rows : List Row) (k : ℕ) (a : SocketAddr) (id : TransactionId) (s : Sound a) where
+  pub plain-back : look rows k ≡ Listed 8 20 Address → typedOf rows k (addressValue a) id ≡ saidBy a
+  unfolding fault ruleIn readOf
+  plain-back e =
+      let z : fault rows k (addressValue a) ≡ 0 = rw e (address-right a (s .size)) in
+      fields rows k (addressValue a) z id ∙ rw (e, address-back a s)
+
+  pub xor-back : look rows k ≡ Listed 8 20 XorAddress → typedOf rows k (addressValue (addrXor a id)) id ≡ saidBy a
+  unfolding fault ruleIn readOf
+  xor-back e =
+      let t : Sound (addrXor a id) = xor-sound a id s in
+      let z : fault rows k (addressValue (addrXor a id)) ≡ 0 = rw e (xor-address-right (addrXor a id) (t .size)) in
+      fields rows k (addressValue (addrXor a id)) z id ∙ rw (e, address-back (addrXor a id) t, addr-twice a id)

@@ -3,7 +3,7 @@ ghost use mathlib.Core.Path.{_≡_};
 ghost use Prim.Native.Nat.{_+_};
 ghost use lib.ListN.{getD};
 ghost use Rattle.rfc5389.specs.Rows.{rfc5389};
-ghost use Rattle.typed.specs.Typed.{typedSaid, familyNumbered, ipOf, addressOf, without, saidBy, plainOf, typedOf, partOf, partAt};
+ghost use Rattle.typed.specs.Typed.{typedSaid, familyNumbered, ipOf, addressOf, without, saidBy, typedOf, partOf, partAt};
 use net::Family;
 use net::SocketAddr;
 use net::socket_addr_xor;
@@ -23,8 +23,6 @@ pub struct Typed {
     pub value: Value,
     pub ip: [u8; 16],
 }
-
-pub const XOR_MAPPED_ADDRESS: u16 = 0x0020;
 
 fn without(value: Value) -> Typed
     ensures { λ r. ⌜ r ≡ without value ⌝ }
@@ -89,27 +87,19 @@ fn address(v: &[u8]) -> SocketAddr
     }
 }
 
-// The plain address of a type.
-fn plain(kind: u16, addr: SocketAddr, id: TransactionId) -> SocketAddr
-    ensures { λ r. ⌜ r ≡ plainOf kind addr id ⌝ }
-{
-    if kind == XOR_MAPPED_ADDRESS {
-        return socket_addr_xor(addr, id);
-    }
-    addr
-}
-
 // What a value of a type says: its fields, or 11 to 14 just as the reader would give. A type that the list doesn't have is plain.
 pub fn value_of(kind: u16, value: &[u8], id: TransactionId) -> Typed
     ensures { λ r. ⌜ typedSaid r ≡ typedSaid (typedOf rfc5389 kind (now (value .entry)) id) ⌝ }
 {
-    let number = rfc5389::fault(kind, value);
+    let entry = rfc5389::entry_of(kind);
+    let number = rfc5389::entry_fault(entry, value);
     if number != 0 {
         return without(Value::Refused { number });
     }
-    let rule = rfc5389::rule_of(kind);
+    let rule = rfc5389::entry_rule(entry);
     match rule {
-        Rule::Address => said_by(plain(kind, address(value), id)),
+        Rule::Address => said_by(address(value)),
+        Rule::XorAddress => said_by(socket_addr_xor(address(value), id)),
         Rule::Code => {
             let class = (byte(value, 2) % 8) as u16;
             without(Value::Code {
@@ -126,12 +116,14 @@ pub fn value_of(kind: u16, value: &[u8], id: TransactionId) -> Typed
 pub fn part_of<'a>(kind: u16, value: &'a [u8]) -> &'a [u8]
     ensures { λ r. ⌜ (now r ≡ partOf rfc5389 kind (now (value .entry))) × (r .ptr ≡ (value .entry .ptr .0, partAt rfc5389 kind (now (value .entry)) + value .entry .ptr .1)) ⌝ }
 {
-    if rfc5389::fault(kind, value) != 0 {
+    let entry = rfc5389::entry_of(kind);
+    if rfc5389::entry_fault(entry, value) != 0 {
         return &value[0..0];
     }
-    let rule = rfc5389::rule_of(kind);
+    let rule = rfc5389::entry_rule(entry);
     match rule {
         Rule::Address => &value[0..0],
+        Rule::XorAddress => &value[0..0],
         Rule::Code => &value[4..],
         Rule::Text => value,
         Rule::Types => value,

@@ -12,8 +12,9 @@ use rfc5389::errors::Unauthorized;
 use rfc5389::errors::UnknownAttribute;
 use rfc5389::methods::BINDING;
 use typed::Value;
-use typed::XOR_MAPPED_ADDRESS;
 use wire::transaction_id::TransactionId;
+
+const XOR_MAPPED_ADDRESS: u16 = 0x0020;
 
 fn put(s: &[u8]) {
     io::write_all(STDOUT_FILENO, s);

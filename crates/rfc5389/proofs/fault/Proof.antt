@@ -1,33 +1,11 @@
-use Rattle.rfc5389.specs.SaidLaws.{sizes-one, rule-one}
-use Rattle.rfc5389.proofs.Faults.{unknown, too-short, too-long, by-rule}
+use Rattle.rfc5389.specs.SaidLaws.{entry-one}
+use Rattle.rfc5389.proofs.Faults.{by-kind}
 use borrow.Author.Needs.{needs}
 use Rattle.rfc5389.proofs.fault.Statement.{statement}
 use Rattle.rfc5389.proofs.fault.Tie as tie
 
 returns : tie.Need-returns
-returns c = search (too-short, too-long, by-rule, sizes-one, rule-one)
-
-returns-2 : tie.Need-returns-2
-returns-2 c = search (too-short, too-long, by-rule, sizes-one, rule-one)
-
-returns-3 : tie.Need-returns-3
-returns-3 c = search (unknown, by-rule, sizes-one, rule-one)
-
-returns-4 : tie.Need-returns-4
-returns-4 c = search (by-rule, sizes-one, rule-one)
+returns c = search (by-kind, entry-one)
 
 pub fault-spec : {M : Type 1} → statement M
-fault-spec =
-    tie.close
-    (tie.spec
-    (λ c κs. search needs)
-    (λ c. search needs)
-    (λ c. search needs)
-    (λ c. search needs)
-    returns
-    (λ c. search needs)
-    returns-2
-    (λ c κs. search needs)
-    (λ c κs. search needs)
-    returns-3
-    returns-4)
+fault-spec = tie.close (tie.spec (λ c κs. search needs) (λ c κs. search needs) returns)

@@ -5,10 +5,10 @@ use Rattle.stun.proofs.input.all_text.Statement.{statement}
 use Rattle.stun.proofs.input.all_text.Tie as tie
 
 abbrev Inv-loop : tie.InvT-loop
-Inv-loop fd have file₀ raw₀ g₀ n₀ left₀ file raw g n left = (length file ≡ length file₀) × (length raw ≡ length raw₀)
+Inv-loop fd name have file₀ raw₀ g₀ n₀ left₀ file raw g n left = length raw ≡ length raw₀
 
 abbrev μ-loop : tie.MeasureT-loop
-μ-loop fd have file₀ raw₀ g₀ n₀ left₀ file raw g n left = left
+μ-loop fd name have file₀ raw₀ g₀ n₀ left₀ file raw g n left = left
 
 pub all-text-spec : {M : Type 1} → statement M
 all-text-spec =

@@ -1,10 +1,10 @@
 use Prim.Native.Nat.{_-_}
 use mathlib.Core.Path.{ap}
-use Rattle.rfc5389.specs.Rows.{sizesSaid}
+use Rattle.rfc5389.specs.Rows.{entrySaid}
 use Rattle.rfc5389.proofs.Looking.{Looking, start, turn, found, done}
 use borrow.Author.Needs.{needs}
-use Rattle.rfc5389.proofs.sizes_of.Statement.{statement}
-use Rattle.rfc5389.proofs.sizes_of.Tie as tie
+use Rattle.rfc5389.proofs.entry_of.Statement.{statement}
+use Rattle.rfc5389.proofs.entry_of.Tie as tie
 
 abbrev Inv-loop : tie.InvT-loop
 Inv-loop kind rows i₀ i = Looking rows kind i
@@ -16,16 +16,16 @@ loop-holds : tie.Need-loop-holds Inv-loop μ-loop
 loop-holds c = start _
 
 returns : tie.Need-returns Inv-loop μ-loop
-returns c = ap sizesSaid (search (found))
+returns c = ap entrySaid (search (found))
 
 loop-again : tie.Need-loop-again Inv-loop μ-loop
 loop-again c = turn _ (c .before .before .before .before .loop .inv) (c .before .before .before .loop-test .taken) (c .if1 .left)
 
 returns-2 : tie.Need-returns-2 Inv-loop μ-loop
-returns-2 c = ap sizesSaid (search (done))
+returns-2 c = ap entrySaid (search (done))
 
-pub sizes-of-spec : {M : Type 1} → statement M
-sizes-of-spec =
+pub entry-of-spec : {M : Type 1} → statement M
+entry-of-spec =
     tie.close
     (tie.spec
     Inv-loop
