@@ -1,32 +1,24 @@
--- What 0 says: the datagram is whole, and the value of its first MESSAGE-INTEGRITY is the digest of the bytes before it. And only then is it told.
+-- 0 is told of what is signed, and of nothing else.
 use Prim.Native.Nat.{ℕ}
 use mathlib.Core.List.{List}
 use mathlib.Core.Bool.{Bool, true, false}
 use mathlib.Core.Path.{_≡_, refl, sym, _∙_}
 use native.Mathlib.Omega.{arith}
 use Rattle.base.specs.Choice.{pick}
-use Rattle.attribute.specs.Attribute.{Attr}
 use Rattle.rfc5389.specs.declared.Row.{Row}
 use Rattle.message.specs.Reading.{readingSaid, readingOf}
 use Rattle.value.specs.First.{Place, none, starts, firstIn, isWhole}
 use Rattle.value.specs.WholeLaws.{number-whole}
 use Rattle.base.specs.SameLaws.{same-eq, same-refl}
 use Rattle.base.specs.Same.{same}
-use Rattle.integrity.specs.Integrity.{integrityAt, comparedAt, compared, integrityFault}
+use Rattle.integrity.specs.Integrity.{integrityAt, comparedAt, compared, integrityFault, Signed}
 
-pub record Signed (rows : List Row) (d key : List ℕ) : Type 0 where
-  pub whole : isWhole rows d ≡ true
-  pub place : ℕ
-  pub attr : Attr
-  pub there : firstIn 0x0008 d ≡ starts place attr
-  pub value : integrityAt key d place ≡ attr .value
-
--- 0 is told of what is signed, over the list of types
+-- over any list of types
 pub signed-0 : {rows : List Row} {d key : List ℕ} → Signed rows d key → integrityFault rows d key ≡ 0
 unfolding integrityFault compared comparedAt
 signed-0 {rows} {d} {key} s = rw (s .whole, s .there, s .value, same-refl (s .attr .value))
 
--- and of nothing else
+-- and the other way
 pub only-signed : (rows : List Row) (d key : List ℕ) → integrityFault rows d key ≡ 0 → Signed rows d key
 unfolding integrityFault compared comparedAt
 only-signed rows d key e = go (isWhole rows d) refl e

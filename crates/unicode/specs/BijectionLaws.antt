@@ -9,7 +9,7 @@ use lib.ListN.{length, take, drop, length-append}
 use lib.Seq.{take-append-seam, drop-append-seam}
 use Rattle.unicode.specs.Utf8.{UTF8-char, Among, Octets, end, char, width, isUtf8}
 use Rattle.unicode.specs.Utf8Laws.{char-some, width-char, utf8-empty, utf8-char, yes-octets}
-use Rattle.unicode.specs.Scalars.{Scalars, encode, join}
+use Rattle.unicode.specs.Scalars.{Scalars, encode, join, Joined}
 use Rattle.unicode.specs.ScalarsLaws.{Encoded, char-encoded, scalar-char, encode-once}
 use Rattle.unicode.specs.Points.{points}
 use Rattle.unicode.specs.PointsLaws.{char-points}
@@ -19,16 +19,11 @@ pub joined-utf8 : (ns : List ℕ) → Scalars ns → isUtf8 (join ns) ≡ true
 joined-utf8 [] h = utf8-empty
 joined-utf8 (n ∷ ns) h = utf8-char (join ns) (scalar-char (h .0)) ∙ joined-utf8 ns (h .1)
 
--- whatever is UTF-8 is such a join
-pub record Joined (s : List ℕ) : Type 0 where
-  pub numbers : List ℕ
-  pub scalars : Scalars numbers
-  pub bytes : join numbers ≡ s
-
 one-more : {c s : List ℕ} → Encoded c → Joined s → Joined (c ++ s)
 one-more {c} {s} e r =
     record { numbers = e .number ∷ r .numbers; scalars = (e .scalar, r .scalars); bytes = ap (_++ join (r .numbers)) (e .bytes) ∙ ap (c ++_) (r .bytes) }
 
+-- whatever is UTF-8 is such a join
 pub utf8-joined : (s : List ℕ) → isUtf8 s ≡ true → Joined s
 utf8-joined s h = by (yes-octets s h)
   where

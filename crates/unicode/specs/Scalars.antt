@@ -1,6 +1,7 @@
 -- Unicode scalar values and their bytes: RFC 3629, section 3.
 use Prim.Native.Nat.{ℕ, _+_, _/_, _%_, _≤_}
 use mathlib.Core.List.{List, [], _∷_, _++_}
+use mathlib.Core.Path.{_≡_}
 use lib.Dec.{leb}
 use Rattle.base.specs.Choice.{pick}
 
@@ -28,3 +29,9 @@ encode n =
 abbrev pub join : List ℕ → List ℕ
 join [] = []
 join (n ∷ ns) = encode n ++ join ns
+
+-- bytes that are some numbers, encoded
+pub record Joined (s : List ℕ) : Type 0 where
+  pub numbers : List ℕ
+  pub scalars : Scalars numbers
+  pub bytes : join numbers ≡ s
