@@ -1,4 +1,5 @@
 # What the calls in tests/program use beside ./stun. $work is an empty folder, another one for each call.
+programs=$PWD/tests/program
 
 # a datagram of tests/program/datagrams.hex, in hex
 datagram() { sed -n "/^# $1:/{n;p;}" tests/program/datagrams.hex; }
@@ -13,7 +14,7 @@ zeros() { head -c "$1" /dev/zero | tr '\0' '0'; }
 each_word() { tr -s ' \n' '\n'; }
 
 # a call whose standard output is a terminal
-terminal() { python3 tests/program/terminal.py "$@"; }
+terminal() { python3 "$programs/terminal.py" "$@"; }
 
 # a call whose standard input breaks off with an error
 breaking() { python3 tests/program/breaking.py "$@"; }
@@ -21,15 +22,19 @@ breaking() { python3 tests/program/breaking.py "$@"; }
 # a call whose standard output has room for so many bytes
 narrow() { python3 tests/program/narrow.py "$@"; }
 
-# A tree with our launcher in $work/tree, and a program that is a line of sh; rt, which it asks for a proof, is a line of sh too.
+# A tree with our launcher in $work/tree, and a program that is a line of sh; rt, which it asks for a proof, is a line of sh too, and what
+# compiles without one takes the program as it is.
 tree() {
     mkdir -p "$work/bin" "$work/tree/crates/stun/src" "$work/tree/target/bin" "$work/tree/tools"
     cp stun "$work/tree/stun"
-    touch "$work/tree/crates.txt" "$work/tree/crates/stun/src/main.rt"
+    cp tools/prove tools/proved tools/reached "$work/tree/tools"
+    echo stun: >"$work/tree/crates.txt"
+    touch "$work/tree/crates/stun/src/main.rt"
     printf '#!/bin/sh\n%s\n' "$1" >"$work/tree/target/bin/stun"
-    printf '#!/bin/sh\necho "rt $* in $(basename "$PWD")" >>"$work/asked"\n%s\n' "${2-:}" >"$work/bin/rt"
-    printf '#!/bin/sh\nprintf "%%s\\n" "$(command -v env)" "$work/tree/target/bin/$1" "a word"\n' >"$work/tree/tools/words"
-    chmod +x "$work/tree/target/bin/stun" "$work/bin/rt" "$work/tree/tools/words"
+    printf '#!/bin/sh\necho "rt $* in $(basename "$PWD")" >>"$work/asked"\n[ "$1" = version ] || { %s; }\n' "${2-:}" >"$work/bin/rt"
+    printf '#!/bin/sh\nprintf "%%s\\n" "$(command -v env)" "$1" "a word"\n' >"$work/tree/tools/words"
+    printf '#!/bin/sh\necho "compile $1" >>"$work/asked"; cp "$work/tree/target/bin/$1" "$2"\n' >"$work/tree/tools/compile"
+    chmod +x "$work/tree/target/bin/stun" "$work/bin/rt" "$work/tree/tools/words" "$work/tree/tools/compile"
     export work PATH="$work/bin:$PATH"
     cd "$work/tree" || exit
 }
