@@ -2,7 +2,7 @@
 use Prim.Native.Nat.{ℕ, _+_, _-_, _≤_, _<_}
 use mathlib.Core.List.{List}
 use mathlib.Core.Bool.{Bool, true, false}
-use mathlib.Core.Path.{_≡_, refl, sym, ap, _∙_}
+use mathlib.Core.Path.{_≡_, refl, sym, ap, ap₂, _∙_}
 use native.Mathlib.Omega.{arith}
 use borrow.Author.Tests.{lt-ltb, le-ltb, eq-eqb, ne-eqb}
 use lib.ListN.{length, getD, take, drop, length-take, length-drop}
@@ -44,24 +44,27 @@ module _ (d : List ℕ) (p k : ℕ) where
           size : length (take n (drop (p + 4) d)) ≡ n
           size = simp (length-take, length-drop) (omega arith)
 
-module _ (d : List ℕ) (bs : (i : ℕ) → getD d i 0 < 256) (p k n : ℕ) (e : k ≡ 0x8028) (l : p - 20 + 8 ≤ 65535) (h : p + 4 + n ≤ length d) (o : n ≡ 4)
-    (i : 20 ≤ p) {u x : ℕ} (f : u ≡ be32 d (p + 4)) (g : x ≡ printed d p) where
-  room : p + 4 + 4 ≤ length d
-  room = omega arith
+-- the four bytes at a place, and a number
+module _ (d : List ℕ) where
+  pub is-there : ((i : ℕ) → getD d i 0 < 256) → (at : ℕ) {u x : ℕ} → at + 4 ≤ length d → u ≡ be32 d at → u ≡ x
+      → true ≡ same (take 4 (drop at d)) (four x)
+  is-there bs at {u} {x} l f q = sym (rw (be32-bytes d at l bs ∙ ap four (sym f ∙ q)) (same-refl (four x)))
 
-  sum : printed d p ≡ fingerprintAt d p
+  pub not-there : (at : ℕ) {u x : ℕ} → at + 4 ≤ length d → u ≡ be32 d at → (u ≡ x → ⊥) → false ≡ same (take 4 (drop at d)) (four x)
+  not-there at {u} {x} l f q = sym (differs (take 4 (drop at d)) (four x) (λ w. q (f ∙ bytes-be32 d at l x w)))
+
+module _ (d : List ℕ) (p k n : ℕ) (e : k ≡ 0x8028) (l : p - 20 + 8 ≤ 65535) (h : p + 4 + n ≤ length d) (o : n ≡ 4) (i : 20 ≤ p) {b : Bool} {x : ℕ}
+    (f : b ≡ same (take 4 (drop (p + 4) d)) (four x)) (g : x ≡ printed d p) where
+  judged : pick b 0 15 ≡ printFault d p k (take n (drop (p + 4) d))
   unfolding printed
-  sum = simp (le-ltb p 20 i, le-ltb (length d) p (omega arith), le-ltb 65535 (p - 20 + 8) l)
+  judged =
+      by-value d p k e l n h (sym (ap (λ (c : Bool). pick c 0 15) (f ∙ ap₂ (λ (m y : ℕ). same (take m (drop (p + 4) d)) (four y)) (sym o) (g ∙ sum))))
+    where
+      sum : printed d p ≡ fingerprintAt d p
+      sum = simp (le-ltb p 20 i, le-ltb (length d) p (omega arith), le-ltb 65535 (p - 20 + 8) l)
 
-  pub right : u ≡ x → 0 ≡ printFault d p k (take n (drop (p + 4) d))
-  right q =
-      let w : take 4 (drop (p + 4) d) ≡ four (fingerprintAt d p) = be32-bytes d (p + 4) room bs ∙ ap four (sym f ∙ q ∙ g ∙ sum) in
-      let y : same (take n (drop (p + 4) d)) (four (fingerprintAt d p)) ≡ true = rw (o, w) (same-refl (four (fingerprintAt d p))) in
-      by-value d p k e l n h (ap (λ (b : Bool). pick b 0 15) y)
+  pub right : b ≡ true → 0 ≡ printFault d p k (take n (drop (p + 4) d))
+  right c = sym (ap (λ (z : Bool). pick z 0 15) c) ∙ judged
 
-  pub wrong : (u ≡ x → ⊥) → 15 ≡ printFault d p k (take n (drop (p + 4) d))
-  wrong q =
-      by-value d p k e l n h
-      (ap (λ (b : Bool). pick b 0 15)
-      (differs (take n (drop (p + 4) d)) (four (fingerprintAt d p))
-      (λ w. q (f ∙ bytes-be32 d (p + 4) room (fingerprintAt d p) (ap (λ (m : ℕ). take m (drop (p + 4) d)) (sym o) ∙ w) ∙ sym (g ∙ sum)))))
+  pub wrong : b ≡ false → 15 ≡ printFault d p k (take n (drop (p + 4) d))
+  wrong c = sym (ap (λ (z : Bool). pick z 0 15) c) ∙ judged

@@ -170,11 +170,11 @@ module _ (d : List ℕ) where
   eight-on r g e = omega (arith, g .behind)
 
   -- two turns: what is eight bytes further on
-  pub two-words-are : (t : List ℕ) (r : Running) {p v w a b x y : ℕ} → Steps t → 128 ≤ length t → Ran d r p → 4 ≤ r .upto → r .upto + 8 ≡ p → p ≤ length d
-      → r .sum < 2 ^ 32 → v < 2 ^ 32 → w < 2 ^ 32 → v ≡ word (take 4 (drop (r .upto) d)) → w ≡ word (take 4 (drop (r .upto + 4) d))
-      → a ≡ fourBy t (bitXor (r .sum) v) → b ≡ fourBy t (r .power) → x ≡ fourBy t (bitXor a w) → y ≡ fourBy t b
+  pub two-words-are : (t : List ℕ) (r : Running) {p v w a b x y : ℕ} → Ran d r p → x ≡ fourBy t (bitXor a w) → a ≡ fourBy t (bitXor (r .sum) v) → y ≡ fourBy t b
+      → b ≡ fourBy t (r .power) → v ≡ word (take 4 (drop (r .upto) d)) → w ≡ word (take 4 (drop (r .upto + 4) d))
+      → Steps t → 128 ≤ length t → 4 ≤ r .upto → r .upto + 8 ≡ p → p ≤ length d → r .sum < 2 ^ 32 → v < 2 ^ 32 → w < 2 ^ 32
       → Ran d (record { upto = p; length = r .length; sum = x; power = y }) p
-  two-words-are t r {p} {v} {w} {a} {b} {x} {y} h l g k e m i j n q u f s z o =
+  two-words-are t r {p} {v} {w} {a} {b} {x} {y} g z f o s q u h l k e m i j n =
       let one : Worded (r .length) p (r .upto + 4) a b = worded-turn t h l m (worded-start r g k i) (omega arith) j q f s in
       let two : Worded (r .length) p (r .upto + 4 + 4) x y = worded-turn t h l m one (omega arith) n u z o in
       let c : r .upto + 4 + 4 ≡ p = omega arith in

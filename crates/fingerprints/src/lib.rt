@@ -2,6 +2,8 @@
 ghost use mathlib.Core.Path.{_≡_};
 ghost use Prim.Native.Nat.{_+_, _-_, _≤_, _<_};
 ghost use lib.ListN.{length, take, drop};
+ghost use Rattle.base.specs.Same.{same};
+ghost use Rattle.numbers.specs.Numbers.{four};
 ghost use Rattle.attribute.specs.Scan.{scanSaid};
 ghost use Rattle.attribute.specs.ScanLaws.{Scanning};
 ghost use Rattle.crc.specs.Octets.{word};
@@ -229,6 +231,17 @@ fn sum_at(t: &[u32], d: &[u8], run: Running, p: usize) -> Summed
     }
 }
 
+// Are the four bytes at a place this number?
+fn is_there(d: &[u8], at: usize, x: u32) -> bool
+    requires { ⌜ at + 4 ≤ length (now d) ⌝ }
+    ensures { λ r. ⌜ r ≡ same (take 4 (drop at (now (d .entry)))) (four x) ⌝ }
+{
+    if u32_at(d, at) == x {
+        return true;
+    }
+    false
+}
+
 // What is wrong with the attribute at p as a FINGERPRINT: 0, 16 or 15; 0 where it is none.
 fn print_fault(t: &[u32], d: &[u8], run: Running, p: usize, kind: u16, size: usize) -> Verdict
     requires { ⌜ Steps (now t) × Ran (now d) run p × (20 ≤ p) × (p + 4 + size ≤ length (now d)) ⌝ }
@@ -246,7 +259,7 @@ fn print_fault(t: &[u32], d: &[u8], run: Running, p: usize, kind: u16, size: usi
     }
     let s = sum_at(t, d, run, p);
     let run = s.run;
-    if u32_at(d, p + 4) == s.value {
+    if is_there(d, p + 4, s.value) {
         return Verdict { fault: 0, run };
     }
     Verdict { fault: 15, run }

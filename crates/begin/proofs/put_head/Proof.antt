@@ -4,7 +4,7 @@ use Rattle.begin.proofs.put_head.Statement.{statement}
 use Rattle.begin.proofs.put_head.Tie as tie
 
 returns : tie.Need-returns
-returns c = search (parts, c .before .before .before .before .before .before .before .before .before .before .before .before .before .before .before .before .before .before .good .1 .1 .0 .1 .0 .1)
+returns c = search (parts)
 
 pub put-head-spec : {M : Type 1} → statement M
 put-head-spec =
