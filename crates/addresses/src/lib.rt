@@ -60,8 +60,7 @@ fn form_bytes(rule: Rule, addr: SocketAddr, id: TransactionId) -> [u8; 20]
     address_bytes(family.as_u8(), a.port, ip)
 }
 
-// Appends an address of any type that the list has as one: MAPPED-ADDRESS, XOR-MAPPED-ADDRESS, ALTERNATE-SERVER. It is given plain; the XOR
-// form takes the ID of the message at the front.
+// Appends an address, of any type whose rule is one of an address. It is given plain; the XOR form takes the ID of the message at the front.
 pub fn append_address(buf: &mut [u8], kind: u16, addr: SocketAddr) -> Written
     ensures { λ r. ⌜ (writtenSaid r ≡ writtenSaid (answer (now (buf .entry)) (addressRefusal (ruleOf rfc5389 kind)) (addressAttr rfc5389 (now (buf .entry)) kind addr)))
         × (now (buf .exit) ≡ appended (now (buf .entry)) (addressRefusal (ruleOf rfc5389 kind)) (addressAttr rfc5389 (now (buf .entry)) kind addr)) ⌝ }

@@ -17,14 +17,14 @@ use Rattle.append.specs.Append.{attr}
 unfoldable pub typed : ℕ → List ℕ → Attr
 typed k v = attr k v (replicate (padded (length v) - length v) 0)
 
--- 23: the value breaks the list of types or its further rule, 11 to 14; 0: it doesn't
-unfoldable pub refusal : List Row → ℕ → List ℕ → ℕ
-refusal rows k v = pick (eqb (fault rows k v) 0) 0 23
-
 -- whether a rule is this one
 unfoldable pub isRule : Rule → Rule → Bool
 isRule q p = eqb (ruleNumber q) (ruleNumber p)
 
--- the same of a text: a type under another rule is no text's
+-- 23: the value breaks the list of types or its further rule, 11 to 14; 0: it doesn't
+unfoldable pub refusal : List Row → ℕ → List ℕ → ℕ
+refusal rows k v = pick (eqb (fault rows k v) 0) 0 23
+
+-- the same of a text: a type with another rule is no text's
 unfoldable pub textRefusal : List Row → ℕ → List ℕ → ℕ
 textRefusal rows k v = pick (isRule (ruleOf rows k) Text) (refusal rows k v) 23

@@ -39,7 +39,7 @@ fn text_refusal(kind: u16, text: &[u8]) -> u8
     refusal_of(kind, text)
 }
 
-// Appends a text of any type that the list has as one: USERNAME, REALM, NONCE, SOFTWARE.
+// Appends a text, of any type whose rule is that of texts.
 pub fn append_text(buf: &mut [u8], kind: u16, text: &[u8]) -> Written
     ensures { λ r. ⌜ (writtenSaid r ≡ writtenSaid (answer (now (buf .entry)) (textRefusal rfc5389 kind (now (text .entry))) (typed kind (now (text .entry)))))
         × (now (buf .exit) ≡ appended (now (buf .entry)) (textRefusal rfc5389 kind (now (text .entry))) (typed kind (now (text .entry)))) ⌝ }

@@ -11,7 +11,7 @@ use Rattle.addresses.specs.Address.{addressRefusal, addressAttr}
 use Rattle.c_wire.specs.Said.{addr}
 use Rattle.c_wire.specs.declared.Address as c
 
--- 23: the number is no family's, or the type no address's; else 0
+-- 23: the number is no family's, or the type no address's; 0: neither
 unfoldable pub refusalOf : ℕ → c.Address → ℕ
 refusalOf k a = pick (eqb (a .family) 1 || eqb (a .family) 2) (addressRefusal (ruleOf rfc5389 k)) 23
 
