@@ -1,9 +1,13 @@
 -- The bytes of the values, and what the call returns and leaves in the buffer.
-use Prim.Native.Nat.{ℕ, _+_, _-_, _≤_}
+use Prim.Native.Nat.{ℕ, suc, _+_, _-_, _≤_}
 use mathlib.Core.List.{List, [], _∷_, _++_, append-nil}
+use mathlib.Core.Bool.{Bool, true, false}
 use mathlib.Core.Path.{_≡_, refl, sym, ap, ap₂, _∙_}
 use native.Mathlib.Omega.{arith}
 use lib.ListN.{length, take, drop, set, replicate, drop-of-length-le}
+use types.Run.{OneOf}
+use denote.Enum.Declared.{tagOf, declared}
+use Rattle.base.specs.Choice.{pick}
 use Rattle.base.specs.LaidLaws.{laid-is}
 use Rattle.base.specs.Laid.{laid}
 use Rattle.numbers.specs.Numbers.{two}
@@ -14,27 +18,41 @@ use Rattle.header.specs.Header.{frontOf}
 use Rattle.header.specs.declared.Header.{Header}
 use Rattle.net.specs.Net.{familyNumber, ipSize, addrXor, addressValue}
 use Rattle.net.specs.declared.Family.{Family}
-use Rattle.net.specs.declared.Family.the-variants.{Ipv4, Ipv6}
 use Rattle.net.specs.declared.SocketAddr.{SocketAddr}
+use Rattle.rfc5389.specs.Rows.{ruleNumber, rfc5389, look, ruleIn, ruleOf}
+use Rattle.rfc5389.specs.AddressLaws as laws
+use Rattle.rfc5389.specs.declared.Rule.{Rule}
+use Rattle.rfc5389.specs.declared.Rule.the-variants.{Address, XorAddress}
+use Rattle.rfc5389.specs.declared.Entry.{Entry}
+use Rattle.rfc5389.proofs.Rule.{enum}
 use Rattle.begin.specs.declared.Written.{Written}
 use Rattle.append.specs.Append.{answer, appended}
-use Rattle.append_typed.specs.Typed.{typed}
-use Rattle.addresses.specs.Address.{addressNumber, given}
-use Rattle.addresses.specs.declared.AddressKind.{AddressKind}
-use Rattle.addresses.specs.declared.AddressKind.the-variants.{MappedAddress, XorMappedAddress, AlternateServer}
+use Rattle.append_typed.specs.Typed.{isRule, typed}
+use Rattle.append_typed.proofs.Rules.{this-rule, another-rule}
+use Rattle.addresses.specs.Address.{addressRefusal, given, addressAttr}
 
-module _ {k : AddressKind} (a : SocketAddr) (id : TransactionId) where
-  pub form-mapped : k ≡ MappedAddress → a ≡ given k a id
-  unfolding given
-  form-mapped e = rw e
+-- what is wrong with a rule, and the form of an address under it
+module _ (q : Rule) where
+  pub plain-rule : q ≡ Address → 0 ≡ addressRefusal q
+  unfolding addressRefusal
+  plain-rule e = rw (this-rule q Address e)
 
-  pub form-server : k ≡ AlternateServer → a ≡ given k a id
-  unfolding given
-  form-server e = rw e
+  pub xor-rule : q ≡ XorAddress → 0 ≡ addressRefusal q
+  unfolding addressRefusal isRule ruleNumber
+  xor-rule e = rw e
 
-  pub form-xor : {r : SocketAddr} → k ≡ XorMappedAddress → r ≡ addrXor a id → r ≡ given k a id
-  unfolding given
-  form-xor e f = rw e f
+  pub no-address : OneOf (0 ∷ 3 ∷ 4 ∷ 5 ∷ []) (tagOf (declared enum) q) → 23 ≡ addressRefusal q
+  unfolding addressRefusal ruleNumber
+  no-address t = rw (another-rule q Address (0 ∷ 3 ∷ 4 ∷ 5 ∷ []) tt t, another-rule q XorAddress (0 ∷ 3 ∷ 4 ∷ 5 ∷ []) tt t)
+
+  module _ (a : SocketAddr) (id : TransactionId) where
+    pub plain-form : OneOf (0 ∷ 1 ∷ 3 ∷ 4 ∷ 5 ∷ []) (tagOf (declared enum) q) → a ≡ given q a id
+    unfolding given ruleNumber
+    plain-form t = rw (another-rule q XorAddress (0 ∷ 1 ∷ 3 ∷ 4 ∷ 5 ∷ []) tt t)
+
+    pub xor-form : {r : SocketAddr} → q ≡ XorAddress → r ≡ addrXor a id → r ≡ given q a id
+    unfolding given
+    xor-form e f = rw (this-rule q XorAddress e) f
 
 pub address-bytes : (f p : ℕ) (ip : List ℕ) {b1 b2 : List ℕ} → length ip ≡ 16 → b1 ≡ put (set (replicate 20 0) 1 f) 2 (two p) → b2 ≡ put b1 4 ip
     → b2 ≡ 0 ∷ f ∷ two p ++ ip
@@ -46,46 +64,52 @@ address-bytes f p ip {b1} {b2} l e g =
     let z : drop (2 + length (two p ++ ip)) v ≡ [] = drop-of-length-le v {i = 2 + length (two p ++ ip)} (omega arith) in
     b ∙ laid-is v 2 (two p ++ ip) (omega arith) ∙ ap (λ (x : List ℕ). 0 ∷ f ∷ (two p ++ ip) ++ x) z ∙ append-nil (0 ∷ f ∷ two p ++ ip)
 
-pub form-bytes : (k : AddressKind) (addr : SocketAddr) (id : TransactionId) {a : SocketAddr} {f : ℕ} {v : List ℕ} → a ≡ given k addr id
-    → f ≡ familyNumber (a .family) → v ≡ 0 ∷ f ∷ two (a .port) ++ a .ip
-    → v ≡ 0 ∷ familyNumber (given k addr id .family) ∷ two (given k addr id .port) ++ given k addr id .ip
-form-bytes k addr id {a} g fe ve =
-    ve ∙ ap (λ (y : ℕ). 0 ∷ y ∷ two (a .port) ++ a .ip) fe
-    ∙ ap (λ (x : SocketAddr). 0 ∷ familyNumber (x .family) ∷ two (x .port) ++ x .ip) g
+-- those in front, over the size of the IP
+front : (f p n : ℕ) (ip : List ℕ) → take (4 + n) (0 ∷ f ∷ two p ++ ip) ≡ 0 ∷ f ∷ two p ++ take n ip
+front f p n ip = let e : 4 + n ≡ suc (suc (suc (suc n))) = omega arith in ap (λ (i : ℕ). take i (0 ∷ f ∷ two p ++ ip)) e
 
 -- the XOR form is of the same family
-same-family : (k : AddressKind) (a : SocketAddr) (id : TransactionId) → given k a id .family ≡ a .family
+same-family : (q : Rule) (a : SocketAddr) (id : TransactionId) → given q a id .family ≡ a .family
 unfolding given addrXor
-same-family MappedAddress a id = refl
-same-family XorMappedAddress a id = refl
-same-family AlternateServer a id = refl
-
-pub ip-small : (f : Family) {x : ℕ} → x ≡ ipSize f → x ≤ 16
-ip-small Ipv4 e = omega arith
-ip-small Ipv6 e = omega arith
-
--- the part of the bytes that the family has
-part : (a : SocketAddr) → take (4 + ipSize (a .family)) (0 ∷ familyNumber (a .family) ∷ two (a .port) ++ a .ip) ≡ addressValue a
-unfolding addressValue
-part a = go (a .family)
+same-family q a id = go (isRule q XorAddress)
   where
-    go : (f : Family) → take (4 + ipSize f) (0 ∷ familyNumber f ∷ two (a .port) ++ a .ip) ≡ 0 ∷ familyNumber f ∷ two (a .port) ++ take (ipSize f) (a .ip)
-    go Ipv4 = refl
-    go Ipv6 = refl
+    go : (b : Bool) → pick b (addrXor a id) a .family ≡ a .family
+    go true = refl
+    go false = refl
 
-module _ (d : List ℕ) (k : AddressKind) (addr : SocketAddr) {h : Header} {x n : ℕ} {v : List ℕ} (e : h ≡ frontOf d)
-    (ve : v ≡ 0 ∷ familyNumber (given k addr (h .id) .family) ∷ two (given k addr (h .id) .port) ++ given k addr (h .id) .ip)
-    (xe : x ≡ ipSize (addr .family)) (ne : n ≡ addressNumber k) where
-  value : take (4 + x - 0) (drop 0 v) ≡ addressValue (given k addr (frontOf d .id))
-  value =
-      let s : x ≡ ipSize (given k addr (h .id) .family) = xe ∙ ap ipSize (sym (same-family k addr (h .id))) in
-      let m : 4 + x - 0 ≡ 4 + ipSize (given k addr (h .id) .family) = omega arith in
-      ap₂ {C = List ℕ} (λ i w. take i w) m ve ∙ part (given k addr (h .id)) ∙ ap (λ (y : Header). addressValue (given k addr (y .id))) e
+pub form-bytes : (q : Rule) (addr : SocketAddr) (id : TransactionId) {a : SocketAddr} {f : ℕ} {v : List ℕ} → a ≡ given q addr id
+    → f ≡ familyNumber (a .family) → v ≡ 0 ∷ f ∷ two (a .port) ++ a .ip → take (4 + ipSize (addr .family)) v ≡ addressValue (given q addr id)
+unfolding addressValue
+form-bytes q addr id {a} {f} ae fe ve =
+    let s : addr .family ≡ a .family = sym (ap (λ (x : SocketAddr). x .family) ae ∙ same-family q addr id) in
+    ap₂ {C = List ℕ} (λ x y. take (4 + ipSize x) y) s (ve ∙ ap (λ (y : ℕ). 0 ∷ y ∷ two (a .port) ++ a .ip) fe)
+    ∙ front (familyNumber (a .family)) (a .port) (ipSize (a .family)) (a .ip) ∙ ap addressValue ae
 
-  pub address-answer : {r : Written} → r ≡ answer d 0 (typed n (take (4 + x - 0) (drop 0 v)))
-      → r ≡ answer d 0 (typed (addressNumber k) (addressValue (given k addr (frontOf d .id))))
-  address-answer p = p ∙ ap₂ (λ (y : ℕ) (w : List ℕ). answer d 0 (typed y w)) ne value
+pub ip-small : (f : Family) {n : ℕ} → n ≡ ipSize f → n ≤ 16
+ip-small f e = omega (arith, laws.ip-small f)
 
-  pub address-buffer : {b : List ℕ} → b ≡ appended d 0 (typed n (take (4 + x - 0) (drop 0 v)))
-      → b ≡ appended d 0 (typed (addressNumber k) (addressValue (given k addr (frontOf d .id))))
-  address-buffer p = p ∙ ap₂ (λ (y : ℕ) (w : List ℕ). appended d 0 (typed y w)) ne value
+-- the rule of a type, as it is looked up, and the front's header
+module _ (d : List ℕ) (k : ℕ) {x : Entry} {q : Rule} {h : Header} (xe : x ≡ look rfc5389 k) (qe : q ≡ ruleIn x) (he : h ≡ frontOf d) where
+  rule : q ≡ ruleOf rfc5389 k
+  rule = qe ∙ ap ruleIn xe
+
+  -- what is wrong, the bytes and how many of them go
+  module _ (addr : SocketAddr) (v : List ℕ) {w n : ℕ} (we : w ≡ addressRefusal q)
+      (ve : take (4 + ipSize (addr .family)) v ≡ addressValue (given q addr (h .id))) (ne : n ≡ ipSize (addr .family)) where
+    wrong : w ≡ addressRefusal (ruleOf rfc5389 k)
+    wrong = we ∙ ap addressRefusal rule
+
+    attribute : typed k (take (4 + n - 0) (drop 0 v)) ≡ addressAttr rfc5389 d k addr
+    unfolding addressAttr
+    attribute =
+        let m : 4 + n - 0 ≡ 4 + ipSize (addr .family) = omega arith in
+        ap (typed k)
+        (ap (λ (i : ℕ). take i v) m ∙ ve ∙ ap₂ (λ (p : Rule) (y : Header). addressValue (given p addr (y .id))) rule he)
+
+    pub address-answer : {r : Written} → r ≡ answer d w (typed k (take (4 + n - 0) (drop 0 v)))
+        → r ≡ answer d (addressRefusal (ruleOf rfc5389 k)) (addressAttr rfc5389 d k addr)
+    address-answer p = p ∙ ap₂ (answer d) wrong attribute
+
+    pub address-buffer : {b : List ℕ} → b ≡ appended d w (typed k (take (4 + n - 0) (drop 0 v)))
+        → b ≡ appended d (addressRefusal (ruleOf rfc5389 k)) (addressAttr rfc5389 d k addr)
+    address-buffer p = p ∙ ap₂ (appended d) wrong attribute

@@ -1,49 +1,42 @@
 // Typed append of an address.
 ghost use mathlib.Core.Path.{_≡_};
+ghost use Prim.Native.Nat.{_+_};
 ghost use mathlib.Core.List.{_∷_, _++_};
+ghost use lib.ListN.{take};
 ghost use Rattle.numbers.specs.Numbers.{two};
-ghost use Rattle.header.specs.Header.{frontOf};
-ghost use Rattle.net.specs.Net.{familyNumber, addressValue};
+ghost use Rattle.net.specs.Net.{ipSize, addressValue};
+ghost use Rattle.rfc5389.specs.Rows.{rfc5389, ruleOf};
 ghost use Rattle.begin.specs.Begin.{writtenSaid};
 ghost use Rattle.append.specs.Append.{answer, appended};
-ghost use Rattle.append_typed.specs.Typed.{typed};
-ghost use Rattle.addresses.specs.Address.{addressNumber, given};
+ghost use Rattle.addresses.specs.Address.{addressRefusal, given, addressAttr};
 use append_typed::append_value;
 use begin::Written;
 use buffers::put_bytes;
 use buffers::put_u16;
 use net::SocketAddr;
 use net::socket_addr_xor;
+use rfc5389::Rule;
 use wire::transaction_id::TransactionId;
 
-pub enum AddressKind {
-    MappedAddress,
-    XorMappedAddress,
-    AlternateServer,
-}
-
-impl AddressKind {
-    // The attribute type.
-    pub fn as_u16(self) -> u16
-        ensures { λ r. ⌜ r ≡ addressNumber self ⌝ }
-    {
-        match self {
-            AddressKind::MappedAddress => 0x0001,
-            AddressKind::XorMappedAddress => 0x0020,
-            AddressKind::AlternateServer => 0x8023,
-        }
-    }
-}
-
-// An address as it is written: only XOR-MAPPED-ADDRESS has another form.
-fn form_of(kind: AddressKind, addr: SocketAddr, id: TransactionId) -> SocketAddr
-    ensures { λ r. ⌜ r ≡ given kind addr id ⌝ }
+// 23 where a rule is no address's, else 0.
+fn rule_refusal(rule: Rule) -> u8
+    ensures { λ r. ⌜ r ≡ addressRefusal rule ⌝ }
 {
-    match kind {
-        AddressKind::XorMappedAddress => socket_addr_xor(addr, id),
-        AddressKind::MappedAddress => addr,
-        AddressKind::AlternateServer => addr,
+    match rule {
+        Rule::Address => 0,
+        Rule::XorAddress => 0,
+        _ => 23,
     }
+}
+
+// An address as it is written under a rule.
+fn form_of(rule: Rule, addr: SocketAddr, id: TransactionId) -> SocketAddr
+    ensures { λ r. ⌜ r ≡ given rule addr id ⌝ }
+{
+    let Rule::XorAddress = rule else {
+        return addr;
+    };
+    socket_addr_xor(addr, id)
 }
 
 // The bytes of an address, with all 16 of the IP's.
@@ -57,25 +50,27 @@ fn address_bytes(family: u8, port: u16, ip: [u8; 16]) -> [u8; 20]
     v
 }
 
-// Those of its form.
-fn form_bytes(kind: AddressKind, addr: SocketAddr, id: TransactionId) -> [u8; 20]
-    ensures { λ r. ⌜ r ≡ 0 ∷ familyNumber (given kind addr id .family) ∷ two (given kind addr id .port) ++ given kind addr id .ip ⌝ }
+// Those of its form, of which the family has the first.
+fn form_bytes(rule: Rule, addr: SocketAddr, id: TransactionId) -> [u8; 20]
+    ensures { λ r. ⌜ take (4 + ipSize (addr .family)) r ≡ addressValue (given rule addr id) ⌝ }
 {
-    let a = form_of(kind, addr, id);
+    let a = form_of(rule, addr, id);
     let family = a.family;
     let ip = a.ip;
     address_bytes(family.as_u8(), a.port, ip)
 }
 
-// Appends MAPPED-ADDRESS, XOR-MAPPED-ADDRESS or ALTERNATE-SERVER. The address is given plain; the XOR form takes the ID of the message at the front.
-pub fn append_address(buf: &mut [u8], kind: AddressKind, addr: SocketAddr) -> Written
-    ensures { λ r. ⌜ (writtenSaid r ≡ writtenSaid (answer (now (buf .entry)) 0 (typed (addressNumber kind) (addressValue (given kind addr (frontOf (now (buf .entry)) .id))))))
-        × (now (buf .exit) ≡ appended (now (buf .entry)) 0 (typed (addressNumber kind) (addressValue (given kind addr (frontOf (now (buf .entry)) .id))))) ⌝ }
+// Appends an address, of any type whose rule is one of an address. It is given plain; the XOR form takes the ID of the message at the front.
+pub fn append_address(buf: &mut [u8], kind: u16, addr: SocketAddr) -> Written
+    ensures { λ r. ⌜ (writtenSaid r ≡ writtenSaid (answer (now (buf .entry)) (addressRefusal (ruleOf rfc5389 kind)) (addressAttr rfc5389 (now (buf .entry)) kind addr)))
+        × (now (buf .exit) ≡ appended (now (buf .entry)) (addressRefusal (ruleOf rfc5389 kind)) (addressAttr rfc5389 (now (buf .entry)) kind addr)) ⌝ }
 {
+    let rule = rfc5389::entry_rule(rfc5389::entry_of(kind));
+    let wrong = rule_refusal(rule);
     let h = header::front_of(buf);
     let id = h.id;
-    let v = form_bytes(kind, addr, id);
+    let v = form_bytes(rule, addr, id);
     let family = addr.family;
     let n = 4 + family.ip_size();
-    append_value(buf, 0, kind.as_u16(), &v[0..n])
+    append_value(buf, wrong, kind, &v[0..n])
 }

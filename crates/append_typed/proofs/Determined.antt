@@ -8,10 +8,7 @@ use Rattle.rfc5389.specs.Rows.{rfc5389}
 use Rattle.begin.specs.SaidLaws.{written-one}
 use Rattle.begin.specs.declared.Written.{Written}
 use Rattle.append.specs.Append.{answer, appended}
-use Rattle.append_typed.specs.Typed.{textNumber, typed, refusal}
-use Rattle.append_typed.specs.declared.TextKind.{TextKind}
-use Rattle.append_typed.proofs.TextKind.as_u16.Kinds as as-u16
-use Rattle.append_typed.proofs.TextKind.as_u16.Reads as as-u16-reads
+use Rattle.append_typed.specs.Typed.{typed, refusal, textRefusal}
 use Rattle.append_typed.proofs.refusal_of.Kinds as refusal-of
 use Rattle.append_typed.proofs.refusal_of.Reads as refusal-of-reads
 use Rattle.append_typed.proofs.append_value.Kinds as append-value
@@ -20,13 +17,6 @@ use Rattle.append_typed.proofs.append_text.Kinds as append-text
 use Rattle.append_typed.proofs.append_text.Reads as append-text-reads
 use Rattle.append_typed.proofs.append_unknown_attributes.Kinds as append-unknown
 use Rattle.append_typed.proofs.append_unknown_attributes.Reads as append-unknown-reads
-
-pub determined-TextKind-as-u16 : Determines as-u16.ps as-u16.r {I = TextKind} {A = ℕ} as-u16-reads.Asked as-u16-reads.Learnt
-    (λ κs a. a .0) (λ κs z e. z)
-determined-TextKind-as-u16 =
-    by as-u16.ps as-u16.r as-u16-reads.Asked as-u16-reads.Learnt _ _
-    (λ x. textNumber x)
-    (λ κs a y d i q. q)
 
 pub determined-refusal-of : Determines refusal-of.ps refusal-of.r {I = ℕ × List ℕ} {A = ℕ} refusal-of-reads.Asked refusal-of-reads.Learnt
     (λ κs a. (a .0, a .1 .0 .now)) (λ κs z e. z)
@@ -42,11 +32,11 @@ determined-append-value =
     (λ x. (answer (x .0) (x .1) (typed (x .2) (x .3)), appended (x .0) (x .1) (typed (x .2) (x .3))))
     (λ κs a y d i q. ap₂ (λ (u : Written) (v : List ℕ). (u, v)) (written-one (q .0)) (q .1))
 
-pub determined-append-text : Determines append-text.ps append-text.r {I = List ℕ × TextKind × List ℕ} {A = Written × List ℕ} append-text-reads.Asked append-text-reads.Learnt
+pub determined-append-text : Determines append-text.ps append-text.r {I = List ℕ × ℕ × List ℕ} {A = Written × List ℕ} append-text-reads.Asked append-text-reads.Learnt
     (λ κs a. (a .0 .now, a .1 .0, a .1 .1 .0 .now)) (λ κs z e. (z, e .0 .now))
 determined-append-text =
     by append-text.ps append-text.r append-text-reads.Asked append-text-reads.Learnt _ _
-    (λ x. (answer (x .0) (refusal rfc5389 (textNumber (x .1)) (x .2)) (typed (textNumber (x .1)) (x .2)), appended (x .0) (refusal rfc5389 (textNumber (x .1)) (x .2)) (typed (textNumber (x .1)) (x .2))))
+    (λ x. (answer (x .0) (textRefusal rfc5389 (x .1) (x .2)) (typed (x .1) (x .2)), appended (x .0) (textRefusal rfc5389 (x .1) (x .2)) (typed (x .1) (x .2))))
     (λ κs a y d i q. ap₂ (λ (u : Written) (v : List ℕ). (u, v)) (written-one (q .0)) (q .1))
 
 pub determined-append-unknown-attributes : Determines append-unknown.ps append-unknown.r {I = List ℕ × List ℕ} {A = Written × List ℕ} append-unknown-reads.Asked append-unknown-reads.Learnt

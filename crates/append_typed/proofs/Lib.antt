@@ -1,2 +1,3 @@
+pub mod Rules
 mod Values
 mod Determined

@@ -5,12 +5,20 @@ use mathlib.Core.Path.{_≡_, refl, sym, ap, _∙_}
 use native.Mathlib.Omega.{arith}
 use borrow.Author.Tests.{eq-eqb, ne-eqb}
 use lib.ListN.{length, take, drop, replicate}
+use Rattle.base.specs.Choice.{pick}
 use Rattle.attribute.specs.Attribute.{padded}
+use types.Run.{OneOf}
+use denote.Enum.Declared.{tagOf, declared}
+use Rattle.rfc5389.specs.Rows.{ruleNumber, look, ruleIn, rfc5389}
 use Rattle.rfc5389.specs.Fault.{fault}
-use Rattle.rfc5389.specs.Rows.{rfc5389}
+use Rattle.rfc5389.specs.declared.Rule.{Rule}
+use Rattle.rfc5389.specs.declared.Rule.the-variants.{Text}
+use Rattle.rfc5389.specs.declared.Entry.{Entry}
+use Rattle.rfc5389.proofs.Rule.{enum}
 use Rattle.begin.specs.declared.Written.{Written}
 use Rattle.append.specs.Append.{attr, answer, appended}
-use Rattle.append_typed.specs.Typed.{typed, refusal}
+use Rattle.append_typed.specs.Typed.{typed, refusal, isRule, textRefusal}
+use Rattle.append_typed.proofs.Rules.{this-rule, another-rule}
 
 module _ (k : ℕ) (v : List ℕ) {x : ℕ} (e : x ≡ fault rfc5389 k v) where
   pub taken : x ≡ 0 → 0 ≡ refusal rfc5389 k v
@@ -21,13 +29,26 @@ module _ (k : ℕ) (v : List ℕ) {x : ℕ} (e : x ≡ fault rfc5389 k v) where
   unfolding refusal
   refused z = simp (ne-eqb (fault rfc5389 k v) 0 (λ y. z (e ∙ y)))
 
--- an answer and a buffer under the number of a kind and what is wrong with a value of it
-module _ (d v : List ℕ) {j k f : ℕ} (n : j ≡ k) (e : f ≡ refusal rfc5389 j v) where
-  pub answers : {w : Written} → w ≡ answer d f (typed j v) → w ≡ answer d (refusal rfc5389 k v) (typed k v)
-  answers g = g ∙ ap (λ (x : ℕ). answer d x (typed j v)) e ∙ ap (λ (y : ℕ). answer d (refusal rfc5389 y v) (typed y v)) n
+-- a text, by the rule of its type
+module _ (k : ℕ) (v : List ℕ) {x : Entry} {q : Rule} (e : x ≡ look rfc5389 k) (g : q ≡ ruleIn x) where
+  by-rule : {n : ℕ} → n ≡ pick (isRule q Text) (refusal rfc5389 k v) 23 → n ≡ textRefusal rfc5389 k v
+  unfolding textRefusal
+  by-rule f = f ∙ ap (λ (y : Rule). pick (isRule y Text) (refusal rfc5389 k v) 23) (g ∙ ap ruleIn e)
 
-  pub leaves : {b : List ℕ} → b ≡ appended d f (typed j v) → b ≡ appended d (refusal rfc5389 k v) (typed k v)
-  leaves g = g ∙ ap (λ (x : ℕ). appended d x (typed j v)) e ∙ ap (λ (y : ℕ). appended d (refusal rfc5389 y v) (typed y v)) n
+  pub is-text : {n : ℕ} → q ≡ Text → n ≡ refusal rfc5389 k v → n ≡ textRefusal rfc5389 k v
+  is-text f h = by-rule (rw (this-rule q Text f) h)
+
+  pub no-text : OneOf (0 ∷ 1 ∷ 2 ∷ 4 ∷ 5 ∷ []) (tagOf (declared enum) q) → 23 ≡ textRefusal rfc5389 k v
+  unfolding ruleNumber
+  no-text t = by-rule (rw (another-rule q Text (0 ∷ 1 ∷ 2 ∷ 4 ∷ 5 ∷ []) tt t))
+
+-- an answer and a buffer under what is wrong with a value
+module _ (d v : List ℕ) (k : ℕ) {f w : ℕ} (e : f ≡ w) where
+  pub answers : {r : Written} → r ≡ answer d f (typed k v) → r ≡ answer d w (typed k v)
+  answers g = g ∙ ap (λ (x : ℕ). answer d x (typed k v)) e
+
+  pub leaves : {b : List ℕ} → b ≡ appended d f (typed k v) → b ≡ appended d w (typed k v)
+  leaves g = g ∙ ap (λ (x : ℕ). appended d x (typed k v)) e
 
 -- the first m of three zeros
 abbrev three : List ℕ

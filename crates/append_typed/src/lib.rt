@@ -3,30 +3,10 @@ ghost use mathlib.Core.Path.{_≡_};
 ghost use Rattle.rfc5389.specs.Rows.{rfc5389};
 ghost use Rattle.begin.specs.Begin.{writtenSaid};
 ghost use Rattle.append.specs.Append.{answer, appended};
-ghost use Rattle.append_typed.specs.Typed.{typed, refusal, textNumber};
+ghost use Rattle.append_typed.specs.Typed.{typed, refusal, textRefusal};
 use append::append_unless;
 use begin::Written;
-
-pub enum TextKind {
-    Username,
-    Realm,
-    Nonce,
-    Software,
-}
-
-impl TextKind {
-    // The attribute type.
-    pub fn as_u16(self) -> u16
-        ensures { λ r. ⌜ r ≡ textNumber self ⌝ }
-    {
-        match self {
-            TextKind::Username => 0x0006,
-            TextKind::Realm => 0x0014,
-            TextKind::Nonce => 0x0015,
-            TextKind::Software => 0x8022,
-        }
-    }
-}
+use rfc5389::Rule;
 
 // 23 where a value breaks the list of types or its further rule, else 0.
 pub fn refusal_of(kind: u16, value: &[u8]) -> u8
@@ -48,14 +28,24 @@ pub fn append_value(buf: &mut [u8], wrong: u8, kind: u16, value: &[u8]) -> Writt
     append_unless(buf, wrong, kind, value, &zeros[0..m])
 }
 
-// Appends USERNAME, REALM, NONCE or SOFTWARE.
-pub fn append_text(buf: &mut [u8], kind: TextKind, text: &[u8]) -> Written
-    ensures { λ r. ⌜ (writtenSaid r ≡ writtenSaid (answer (now (buf .entry)) (refusal rfc5389 (textNumber kind) (now (text .entry))) (typed (textNumber kind) (now (text .entry)))))
-        × (now (buf .exit) ≡ appended (now (buf .entry)) (refusal rfc5389 (textNumber kind) (now (text .entry))) (typed (textNumber kind) (now (text .entry)))) ⌝ }
+// 23 where a type is no text's or the text breaks its rules, else 0.
+fn text_refusal(kind: u16, text: &[u8]) -> u8
+    ensures { λ r. ⌜ r ≡ textRefusal rfc5389 kind (now (text .entry)) ⌝ }
 {
-    let k = kind.as_u16();
-    let wrong = refusal_of(k, text);
-    append_value(buf, wrong, k, text)
+    let rule = rfc5389::entry_rule(rfc5389::entry_of(kind));
+    let Rule::Text = rule else {
+        return 23;
+    };
+    refusal_of(kind, text)
+}
+
+// Appends a text, of any type whose rule is that of texts.
+pub fn append_text(buf: &mut [u8], kind: u16, text: &[u8]) -> Written
+    ensures { λ r. ⌜ (writtenSaid r ≡ writtenSaid (answer (now (buf .entry)) (textRefusal rfc5389 kind (now (text .entry))) (typed kind (now (text .entry)))))
+        × (now (buf .exit) ≡ appended (now (buf .entry)) (textRefusal rfc5389 kind (now (text .entry))) (typed kind (now (text .entry)))) ⌝ }
+{
+    let wrong = text_refusal(kind, text);
+    append_value(buf, wrong, kind, text)
 }
 
 // Appends UNKNOWN-ATTRIBUTES: the types as they stand in a value, each two bytes, the first the higher.

@@ -8,11 +8,11 @@ use lib.ListN.{length}
 use Rattle.rfc5389.specs.Rows.{rfc5389}
 use Rattle.typed.specs.Typed.{typedOf, partOf, partAt}
 use Rattle.append.specs.Append.{answer, appended}
-use Rattle.append_typed.specs.Typed.{typed, refusal}
+use Rattle.append_typed.specs.Typed.{typed, refusal, textRefusal}
 use Rattle.error_codes.specs.ErrorCode.{codeValue, codeRefusal}
 use Rattle.c_write.specs.Said.{told}
 use Rattle.c_typed.specs.Said.{typedSaid}
-use Rattle.c_typed.specs.Given.{textFault, ofAddress}
+use Rattle.c_typed.specs.Given.{refusalOf, attrOf}
 use Rattle.c_typed.specs.declared.Typed.{Typed}
 use Rattle.c_wire.specs.declared.Address.{Address}
 use Rattle.c_wire.specs.declared.Id.{Id}
@@ -48,7 +48,7 @@ pub determined-cratehoist-append-text : Determines append-text-kinds.ps append-t
     (λ κs a. (a .0 .now, a .1 .0, a .1 .1 .0 .now)) (λ κs z e. (z, e .0 .now))
 determined-cratehoist-append-text =
     by append-text-kinds.ps append-text-kinds.r append-text-reads.Asked append-text-reads.Learnt _ _
-    (λ x. (told (answer (x .0) (textFault (x .1) (x .2)) (typed (x .1) (x .2))), appended (x .0) (textFault (x .1) (x .2)) (typed (x .1) (x .2))))
+    (λ x. (told (answer (x .0) (textRefusal rfc5389 (x .1) (x .2)) (typed (x .1) (x .2))), appended (x .0) (textRefusal rfc5389 (x .1) (x .2)) (typed (x .1) (x .2))))
     (λ κs a y d i q. ap₂ (λ (u : Written) (v : List ℕ). (u, v)) (q .0) (q .1))
 
 pub determined-cratehoist-append-unknown-attributes : Determines append-unknown-attributes-kinds.ps append-unknown-attributes-kinds.r {I = List ℕ × List ℕ} {A = Written × List ℕ} append-unknown-attributes-reads.Asked append-unknown-attributes-reads.Learnt
@@ -62,7 +62,7 @@ pub determined-cratehoist-append-address : Determines append-address-kinds.ps ap
     (λ κs a. (a .0 .now, a .1 .0, a .1 .1 .0)) (λ κs z e. (z, e .0 .now))
 determined-cratehoist-append-address =
     by append-address-kinds.ps append-address-kinds.r append-address-reads.Asked append-address-reads.Learnt _ _
-    (λ x. (told (answer (x .0) (ofAddress (x .0) (x .1) (x .2) .0) (ofAddress (x .0) (x .1) (x .2) .1)), appended (x .0) (ofAddress (x .0) (x .1) (x .2) .0) (ofAddress (x .0) (x .1) (x .2) .1)))
+    (λ x. (told (answer (x .0) (refusalOf (x .1) (x .2)) (attrOf (x .0) (x .1) (x .2))), appended (x .0) (refusalOf (x .1) (x .2)) (attrOf (x .0) (x .1) (x .2))))
     (λ κs a y d i q. ap₂ (λ (u : Written) (v : List ℕ). (u, v)) (q .0) (q .1))
 
 pub determined-cratehoist-append-error-code : Determines append-error-code-kinds.ps append-error-code-kinds.r {I = List ℕ × ℕ × List ℕ} {A = Written × List ℕ} append-error-code-reads.Asked append-error-code-reads.Learnt

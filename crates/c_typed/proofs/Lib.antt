@@ -1,4 +1,3 @@
 mod Sayings
-mod Texts
 mod Addresses
 mod Determined

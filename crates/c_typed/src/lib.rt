@@ -1,17 +1,15 @@
-// What C calls: what a value says, and typed appends. A kind is the attribute's type; one that an append has no form for is refused by 23,
-// behind 21. No reader is here, so that in `c_read` and `c_value` the reader is the only caller of the rules, and the compiler puts them
-// into its loop.
+// What C calls: what a value says, and typed appends. A family that is none is refused by 23, behind 21. No reader is here, so that in
+// `c_read` and `c_value` the reader is the only caller of the rules, and the compiler puts them into its loop.
 ghost use mathlib.Core.Path.{_≡_};
 ghost use lib.ListN.{length};
 ghost use Rattle.rfc5389.specs.Rows.{rfc5389};
 ghost use Rattle.typed.specs.Typed.{typedOf, partOf, partAt};
 ghost use Rattle.append.specs.Append.{answer, appended};
-ghost use Rattle.append_typed.specs.Typed.{typed, refusal};
+ghost use Rattle.append_typed.specs.Typed.{typed, refusal, textRefusal};
 ghost use Rattle.error_codes.specs.ErrorCode.{codeValue, codeRefusal};
 ghost use Rattle.c_write.specs.Said.{told};
 ghost use Rattle.c_typed.specs.Said.{typedSaid};
-ghost use Rattle.c_typed.specs.Given.{textFault, ofKind, ofAddress};
-use addresses::AddressKind;
+ghost use Rattle.c_typed.specs.Given.{refusalOf, attrOf};
 use addresses::append_address;
 use append_typed::append_value;
 use c_wire::Address;
@@ -92,26 +90,12 @@ pub extern "C" fn cratehoist_refusal(kind: u16, value: &[u8]) -> u8
     append_typed::refusal_of(kind, value)
 }
 
-// What is wrong with a text of a kind: 0 or 23.
-fn text_fault(kind: u16, text: &[u8]) -> u8
-    ensures { λ r. ⌜ r ≡ textFault kind (now (text .entry)) ⌝ }
-{
-    match kind {
-        0x0006 => append_typed::refusal_of(kind, text),
-        0x0014 => append_typed::refusal_of(kind, text),
-        0x0015 => append_typed::refusal_of(kind, text),
-        0x8022 => append_typed::refusal_of(kind, text),
-        _ => 23,
-    }
-}
-
 #[no_mangle]
 pub extern "C" fn cratehoist_append_text(buffer: &mut [u8], kind: u16, text: &[u8]) -> Written
-    ensures { λ r. ⌜ (r ≡ told (answer (now (buffer .entry)) (textFault kind (now (text .entry))) (typed kind (now (text .entry)))))
-        × (now (buffer .exit) ≡ appended (now (buffer .entry)) (textFault kind (now (text .entry))) (typed kind (now (text .entry)))) ⌝ }
+    ensures { λ r. ⌜ (r ≡ told (answer (now (buffer .entry)) (textRefusal rfc5389 kind (now (text .entry))) (typed kind (now (text .entry)))))
+        × (now (buffer .exit) ≡ appended (now (buffer .entry)) (textRefusal rfc5389 kind (now (text .entry))) (typed kind (now (text .entry)))) ⌝ }
 {
-    let wrong = text_fault(kind, text);
-    in_numbers(append_value(buffer, wrong, kind, text))
+    in_numbers(append_typed::append_text(buffer, kind, text))
 }
 
 #[no_mangle]
@@ -122,33 +106,20 @@ pub extern "C" fn cratehoist_append_unknown_attributes(buffer: &mut [u8], types:
     in_numbers(append_typed::append_unknown_attributes(buffer, types))
 }
 
-// An address of a family that there is.
-fn append_kind(buf: &mut [u8], kind: u16, addr: SocketAddr) -> begin::Written
-    ensures { λ r. ⌜ (r ≡ answer (now (buf .entry)) (ofKind (now (buf .entry)) kind addr .0) (ofKind (now (buf .entry)) kind addr .1))
-        × (now (buf .exit) ≡ appended (now (buf .entry)) (ofKind (now (buf .entry)) kind addr .0) (ofKind (now (buf .entry)) kind addr .1)) ⌝ }
-{
-    match kind {
-        0x0001 => append_address(buf, AddressKind::MappedAddress, addr),
-        0x0020 => append_address(buf, AddressKind::XorMappedAddress, addr),
-        0x8023 => append_address(buf, AddressKind::AlternateServer, addr),
-        _ => append_value(buf, 23, kind, b""),
-    }
-}
-
 #[no_mangle]
 pub extern "C" fn cratehoist_append_address(
     buffer: &mut [u8],
     kind: u16,
     address: Address,
 ) -> Written
-    ensures { λ r. ⌜ (r ≡ told (answer (now (buffer .entry)) (ofAddress (now (buffer .entry)) kind address .0) (ofAddress (now (buffer .entry)) kind address .1)))
-        × (now (buffer .exit) ≡ appended (now (buffer .entry)) (ofAddress (now (buffer .entry)) kind address .0) (ofAddress (now (buffer .entry)) kind address .1)) ⌝ }
+    ensures { λ r. ⌜ (r ≡ told (answer (now (buffer .entry)) (refusalOf kind address) (attrOf (now (buffer .entry)) kind address)))
+        × (now (buffer .exit) ≡ appended (now (buffer .entry)) (refusalOf kind address) (attrOf (now (buffer .entry)) kind address)) ⌝ }
 {
     let family = address.family;
     let port = address.port;
     let ip = address.ip;
     if family == 1 {
-        return in_numbers(append_kind(
+        return in_numbers(append_address(
             buffer,
             kind,
             SocketAddr {
@@ -159,7 +130,7 @@ pub extern "C" fn cratehoist_append_address(
         ));
     }
     if family == 2 {
-        return in_numbers(append_kind(
+        return in_numbers(append_address(
             buffer,
             kind,
             SocketAddr {

@@ -6,9 +6,9 @@ use crate::fields::field;
 use crate::fields::low;
 use crate::fields::position;
 use crate::fields::types_of;
-use crate::kinds::address_of;
 use crate::kinds::class_of;
-use crate::kinds::text_of;
+use crate::kinds::is_address;
+use crate::kinds::is_text;
 use crate::wants::ADDRESS_TYPE;
 use crate::wants::BYTES;
 use crate::wants::CALL;
@@ -27,7 +27,6 @@ use crate::wants::TEXT_TYPE;
 use crate::wants::TYPE;
 use crate::wants::TYPES;
 use crate::wants::VALUE;
-use addresses::AddressKind;
 use begin::Written;
 use digits::Number;
 use net::Family;
@@ -106,8 +105,8 @@ fn fits(n: u64, wanted: usize) -> bool {
         CLASS => class_of(n).as_u16() as u64 == n,
         ID => n == 12,
         TYPE | PORT => n <= 65535,
-        ADDRESS_TYPE => address_of(n).as_u16() as u64 == n,
-        TEXT_TYPE => text_of(n).as_u16() as u64 == n,
+        ADDRESS_TYPE => n <= 65535 && is_address(low(n)),
+        TEXT_TYPE => n <= 65535 && is_text(low(n)),
         _ => true,
     }
 }
@@ -199,7 +198,7 @@ fn socket_addr(family: Family, port: u16, ip: &[u8]) -> SocketAddr {
 }
 
 // A family and a size that are no pair break the rule of an address, whatever its bytes: 23, unless the front is no message.
-fn addressed(kind: AddressKind, family: u64, port: u16, ip: &[u8], message: &mut [u8]) -> Written {
+fn addressed(kind: u16, family: u64, port: u16, ip: &[u8], message: &mut [u8]) -> Written {
     if is_pair(Family::Ipv4, family, ip) {
         let a = socket_addr(Family::Ipv4, port, ip);
         return addresses::append_address(message, kind, a);
@@ -208,19 +207,19 @@ fn addressed(kind: AddressKind, family: u64, port: u16, ip: &[u8], message: &mut
         let a = socket_addr(Family::Ipv6, port, ip);
         return addresses::append_address(message, kind, a);
     }
-    append_typed::append_value(message, 23, kind.as_u16(), b"")
+    append_typed::append_value(message, 23, kind, b"")
 }
 
 // address TYPE FAMILY PORT IPHEX
 fn address(t: Taken, bytes: &[u8], message: &mut [u8]) -> Written {
     let ip = part(bytes, 0, t.fourth as usize);
-    addressed(address_of(t.first), t.second, low(t.third), ip, message)
+    addressed(low(t.first), t.second, low(t.third), ip, message)
 }
 
 // text TYPE HEX, error CODE HEX, types T,T,.., integrity HEX and fingerprint, with the bytes of the last field
 fn added(call: usize, first: u64, last: &[u8], message: &mut [u8]) -> Written {
     match call {
-        7 => append_typed::append_text(message, text_of(first), last),
+        7 => append_typed::append_text(message, low(first), last),
         8 => error_codes::append_error_code(message, low(first), last),
         9 => append_typed::append_unknown_attributes(message, last),
         10 => seal::append_message_integrity(message, last),

@@ -1,8 +1,8 @@
-// The library's classes and kinds by their numbers. What is no such number is taken for the last, whose number is another then.
-use addresses::AddressKind;
-use append_typed::TextKind;
+// The library's classes by their numbers, and whether a type has a rule.
+use rfc5389::Rule;
 use wire::types::MessageClass;
 
+// What is no such number is taken for the last, whose number is another then.
 pub fn class_of(n: u64) -> MessageClass {
     match n {
         0 => MessageClass::Request,
@@ -12,19 +12,19 @@ pub fn class_of(n: u64) -> MessageClass {
     }
 }
 
-pub fn address_of(n: u64) -> AddressKind {
-    match n {
-        0x0001 => AddressKind::MappedAddress,
-        0x0020 => AddressKind::XorMappedAddress,
-        _ => AddressKind::AlternateServer,
+pub fn is_address(kind: u16) -> bool {
+    let rule = rfc5389::entry_rule(rfc5389::entry_of(kind));
+    match rule {
+        Rule::Address => true,
+        Rule::XorAddress => true,
+        _ => false,
     }
 }
 
-pub fn text_of(n: u64) -> TextKind {
-    match n {
-        0x0006 => TextKind::Username,
-        0x0014 => TextKind::Realm,
-        0x0015 => TextKind::Nonce,
-        _ => TextKind::Software,
+pub fn is_text(kind: u16) -> bool {
+    let rule = rfc5389::entry_rule(rfc5389::entry_of(kind));
+    match rule {
+        Rule::Text => true,
+        _ => false,
     }
 }

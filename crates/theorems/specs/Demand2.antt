@@ -18,16 +18,17 @@ use lib.Dec.{ltb}
 use Rattle.base.specs.Choice.{pick}
 use Rattle.base.specs.Bytes.{Bytes}
 use Rattle.wire.specs.declared.transaction_id.TransactionId.{TransactionId}
-use Rattle.net.specs.Net.{addressValue, Sound}
+use Rattle.net.specs.Net.{addrXor, addressValue, Sound}
 use Rattle.net.specs.declared.SocketAddr.{SocketAddr}
 use Rattle.header.specs.Header.{frontOf}
 use Rattle.attribute.specs.Attribute.{Attr}
 use Rattle.attribute.specs.Visits.{Visits}
-use Rattle.rfc5389.specs.Rows.{rfc5389, look, ruleIn, ruleOf}
+use Rattle.rfc5389.specs.Rows.{ruleNumber, rfc5389, look, ruleIn, ruleOf}
 use Rattle.rfc5389.specs.Fault.{fault}
 use Rattle.rfc5389.specs.declared.Row.{Row}
 use Rattle.rfc5389.specs.declared.Rule.{Rule}
 use Rattle.rfc5389.specs.declared.Rule.the-variants as rule
+use Rattle.rfc5389.specs.declared.Entry.the-variants.{Listed}
 use Rattle.message.specs.Reading.{readingOf}
 use Rattle.message.specs.Whole.{Whole}
 use Rattle.message.specs.WholeLaws.{told}
@@ -40,14 +41,10 @@ use Rattle.begin.specs.declared.Written.the-variants.{Total}
 use Rattle.plan.specs.Plan.{sizeOf}
 use Rattle.append.specs.Append.{answer, appended}
 use Rattle.append.specs.AppendLaws.{total-goes}
-use Rattle.append_typed.specs.Typed.{textNumber, typed, refusal}
-use Rattle.append_typed.specs.TypedLaws.{no-fault}
-use Rattle.append_typed.specs.declared.TextKind.{TextKind}
-use Rattle.append_typed.specs.declared.TextKind.the-variants.{Username, Realm, Nonce, Software}
-use Rattle.addresses.specs.Address.{addressNumber, given}
-use Rattle.addresses.specs.AddressLaws.{address-passes, given-long}
-use Rattle.addresses.specs.declared.AddressKind.{AddressKind}
-use Rattle.addresses.specs.declared.AddressKind.the-variants.{MappedAddress, XorMappedAddress, AlternateServer}
+use Rattle.append_typed.specs.Typed.{isRule, typed, refusal, textRefusal}
+use Rattle.append_typed.specs.TypedLaws.{no-fault, text-rule, text-right}
+use Rattle.addresses.specs.Address.{addressRefusal, given, addressAttr}
+use Rattle.addresses.specs.AddressLaws.{by-rule, address-entry, address-passes, given-long}
 use Rattle.error_codes.specs.ErrorCode.{codeValue, codeRefusal}
 use Rattle.error_codes.specs.ErrorCodeLaws.{code-right}
 use Rattle.round_trip.specs.Message.{Message, bytesOf, messageOf, Shaped, write, Right, wholeWith}
@@ -84,15 +81,9 @@ module _ (d : List ℕ) (h : Bytes d) where
   unfolding typed
   typed-read rows f k v l p e = record { visits = appended-read d f (typed k v) h l e; passes = p (total-goes d f (typed k v) e .2 .right) }
 
-  pub text-read : (k : TextKind) (v : List ℕ) {t : ℕ} → answer d (refusal rfc5389 (textNumber k) v) (typed (textNumber k) v) ≡ Total t
-      → Typed rfc5389 d (refusal rfc5389 (textNumber k) v) (textNumber k) v t
-  text-read k v e = typed-read rfc5389 (refusal rfc5389 (textNumber k) v) (textNumber k) v (low k) (no-fault rfc5389 (textNumber k) v) e
-    where
-      low : (k : TextKind) → textNumber k < 65536
-      low Username = omega arith
-      low Realm = omega arith
-      low Nonce = omega arith
-      low Software = omega arith
+  pub text-read : (rows : List Row) (k : ℕ) (v : List ℕ) {t : ℕ} → k < 65536 → answer d (textRefusal rows k v) (typed k v) ≡ Total t
+      → Typed rows d (textRefusal rows k v) k v t
+  text-read rows k v l e = typed-read rows (textRefusal rows k v) k v l (text-right rows k v) e
 
   pub types-read : (v : List ℕ) {t : ℕ} → answer d (refusal rfc5389 0x000A v) (typed 0x000A v) ≡ Total t → Typed rfc5389 d (refusal rfc5389 0x000A v) 0x000A v t
   types-read v e = typed-read rfc5389 (refusal rfc5389 0x000A v) 0x000A v (omega arith) (no-fault rfc5389 0x000A v) e
@@ -101,48 +92,52 @@ module _ (d : List ℕ) (h : Bytes d) where
       → Typed rfc5389 d (codeRefusal rfc5389 c s) 0x0009 (codeValue c s) t
   code-read c s e = typed-read rfc5389 (codeRefusal rfc5389 c s) 0x0009 (codeValue c s) (omega arith) (code-right rfc5389 c s) e
 
-  pub address-read : (k : AddressKind) (a : SocketAddr) {t : ℕ} → length (a .ip) ≡ 16
-      → answer d 0 (typed (addressNumber k) (addressValue (given k a (frontOf d .id)))) ≡ Total t
-      → Typed rfc5389 d 0 (addressNumber k) (addressValue (given k a (frontOf d .id))) t
-  address-read k a l e =
-      typed-read rfc5389 0 (addressNumber k) (addressValue (given k a (frontOf d .id))) (low k)
-      (λ z. address-passes k (given k a (frontOf d .id)) (given-long k a (frontOf d .id) l)) e
-    where
-      low : (k : AddressKind) → addressNumber k < 65536
-      low MappedAddress = omega arith
-      low XorMappedAddress = omega arith
-      low AlternateServer = omega arith
+  pub address-read : (k : ℕ) (a : SocketAddr) {t : ℕ} → k < 65536 → length (a .ip) ≡ 16
+      → answer d (addressRefusal (ruleOf rfc5389 k)) (addressAttr rfc5389 d k a) ≡ Total t
+      → Typed rfc5389 d (addressRefusal (ruleOf rfc5389 k)) k (addressValue (given (ruleOf rfc5389 k) a (frontOf d .id))) t
+  unfolding addressAttr
+  address-read k a l h e =
+      let g : SocketAddr = given (ruleOf rfc5389 k) a (frontOf d .id) in
+      typed-read rfc5389 (addressRefusal (ruleOf rfc5389 k)) k (addressValue g) l
+      (address-passes k g (given-long (ruleOf rfc5389 k) a (frontOf d .id) h)) e
 
--- what a typed append takes, typed reading gives back: an address of each kind
-pub address-back : (k : AddressKind) (a : SocketAddr) (id : TransactionId) → Sound a
-    → typedOf rfc5389 (addressNumber k) (addressValue (given k a id)) id ≡ saidBy a
-unfolding given look
-address-back MappedAddress a id s = written.plain-back rfc5389 0x0001 a id s refl
-address-back XorMappedAddress a id s = written.xor-back rfc5389 0x0020 a id s refl
-address-back AlternateServer a id s = written.plain-back rfc5389 0x8023 a id s refl
+-- what a typed append takes, typed reading gives back: an address of every type that has the rule of one
+pub address-back : (k : ℕ) (a : SocketAddr) (id : TransactionId) → addressRefusal (ruleOf rfc5389 k) ≡ 0 → Sound a
+    → typedOf rfc5389 k (addressValue (given (ruleOf rfc5389 k) a id)) id ≡ saidBy a
+unfolding given isRule ruleNumber
+address-back k a id e s =
+    by-rule (λ q. look rfc5389 k ≡ Listed 8 20 q → typedOf rfc5389 k (addressValue (given q a id)) id ≡ saidBy a)
+    (written.plain-back rfc5389 k a id s) (written.xor-back rfc5389 k a id s) (ruleOf rfc5389 k) e (address-entry k e)
 
 -- a value that says no more than its bytes
 plain-back : (q : Rule) (k : ℕ) (v : List ℕ) (id : TransactionId) → ruleOf rfc5389 k ≡ q → readOf q v id ≡ without Plain → partBy q v ≡ v
-    → refusal rfc5389 k v ≡ 0 → (typedOf rfc5389 k v id ≡ without Plain) × (partOf rfc5389 k v ≡ v)
-plain-back q k v id e r p f =
-    let z : fault rfc5389 k v ≡ 0 = no-fault rfc5389 k v f in
+    → fault rfc5389 k v ≡ 0 → (typedOf rfc5389 k v id ≡ without Plain) × (partOf rfc5389 k v ≡ v)
+plain-back q k v id e r p z =
     (fields rfc5389 k v z id ∙ ap (λ (x : Rule). readOf x v id) e ∙ r, part rfc5389 k v z ∙ ap (λ (x : Rule). partBy x v) e ∙ p)
 
-pub text-back : (k : TextKind) (v : List ℕ) (id : TransactionId) → refusal rfc5389 (textNumber k) v ≡ 0
-    → (typedOf rfc5389 (textNumber k) v id ≡ without Plain) × (partOf rfc5389 (textNumber k) v ≡ v)
-unfolding readOf partBy look ruleIn
-text-back k v id f = plain-back rule.Text (textNumber k) v id (is-text k) refl refl f
-  where
-    is-text : (k : TextKind) → ruleOf rfc5389 (textNumber k) ≡ rule.Text
-    is-text Username = refl
-    is-text Realm = refl
-    is-text Nonce = refl
-    is-text Software = refl
+-- a text of every type that has their rule
+pub text-back : (k : ℕ) (v : List ℕ) (id : TransactionId) → textRefusal rfc5389 k v ≡ 0
+    → (typedOf rfc5389 k v id ≡ without Plain) × (partOf rfc5389 k v ≡ v)
+unfolding readOf partBy
+text-back k v id f = plain-back rule.Text k v id (text-rule rfc5389 k v f) refl refl (text-right rfc5389 k v f)
 
 pub types-back : (v : List ℕ) (id : TransactionId) → refusal rfc5389 0x000A v ≡ 0
     → (typedOf rfc5389 0x000A v id ≡ without Plain) × (partOf rfc5389 0x000A v ≡ v)
 unfolding readOf partBy look ruleIn
-types-back v id f = plain-back rule.Types 0x000A v id refl refl refl f
+types-back v id f = plain-back rule.Types 0x000A v id refl refl refl (no-fault rfc5389 0x000A v f)
+
+-- and these are not about nothing: the four texts are judged by their values alone, and the three addresses are taken, XOR-MAPPED-ADDRESS
+-- in its form and the others as they are
+pub the-texts : (v : List ℕ) → (textRefusal rfc5389 0x0006 v ≡ refusal rfc5389 0x0006 v) × (textRefusal rfc5389 0x0014 v ≡ refusal rfc5389 0x0014 v)
+    × (textRefusal rfc5389 0x0015 v ≡ refusal rfc5389 0x0015 v) × (textRefusal rfc5389 0x8022 v ≡ refusal rfc5389 0x8022 v)
+unfolding textRefusal isRule ruleNumber look ruleIn
+the-texts v = (refl, refl, refl, refl)
+
+pub the-addresses : (a : SocketAddr) (id : TransactionId) → (addressRefusal (ruleOf rfc5389 0x0001) ≡ 0) × (given (ruleOf rfc5389 0x0001) a id ≡ a)
+    × (addressRefusal (ruleOf rfc5389 0x0020) ≡ 0) × (given (ruleOf rfc5389 0x0020) a id ≡ addrXor a id)
+    × (addressRefusal (ruleOf rfc5389 0x8023) ≡ 0) × (given (ruleOf rfc5389 0x8023) a id ≡ a)
+unfolding addressRefusal given isRule ruleNumber look ruleIn
+the-addresses a id = (refl, refl, refl, refl, refl, refl)
 
 -- an error code with its phrase
 pub code-back : (c : ℕ) (s : List ℕ) (id : TransactionId) → codeRefusal rfc5389 c s ≡ 0

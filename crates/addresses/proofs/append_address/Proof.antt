@@ -2,6 +2,7 @@ use mathlib.Core.Path.{ap}
 use Rattle.begin.specs.Begin.{writtenSaid}
 use Rattle.begin.specs.SaidLaws.{written-one}
 use Rattle.header.specs.SaidLaws.{header-one}
+use Rattle.rfc5389.specs.SaidLaws.{entry-one, rule-one}
 use Prim.Native.Nat.{_≤_}
 use native.Mathlib.Omega.{arith}
 use Rattle.addresses.proofs.Values.{ip-small, address-answer, address-buffer}
@@ -13,10 +14,10 @@ add-n : tie.Need-add-n
 add-n c = let h : c .ip-size .result ≤ 16 = search (ip-small) in omega arith
 
 part-append-value-end : tie.Need-part-append-value-end
-part-append-value-end c = let h : c .before .before .before .ip-size .result ≤ 16 = search (ip-small) in omega arith
+part-append-value-end c = let h : c .before .before .ip-size .result ≤ 16 = search (ip-small) in omega arith
 
 returns : tie.Need-returns
-returns c = (ap writtenSaid (search (address-answer, written-one, header-one)), search (address-buffer, header-one))
+returns c = (ap writtenSaid (search (address-answer, written-one, header-one, entry-one, rule-one)), search (address-buffer, header-one, entry-one, rule-one))
 
 pub append-address-spec : {M : Type 1} → statement M
 append-address-spec =
@@ -25,8 +26,10 @@ append-address-spec =
     (λ c κs. search needs)
     (λ c κs. search needs)
     (λ c κs. search needs)
-    add-n
     (λ c κs. search needs)
+    (λ c κs. search needs)
+    (λ c κs. search needs)
+    add-n
     (λ c. search needs)
     (λ c. search needs)
     part-append-value-end

@@ -1,17 +1,17 @@
 use Rattle.begin.specs.SaidLaws.{written-one}
-use Rattle.c_typed.proofs.Addresses.{tells-4, keeps-4, tells-6, keeps-6, tells-none, keeps-none}
+use Rattle.c_typed.proofs.Addresses.{tells, keeps, tells-none, keeps-none}
 use borrow.Author.Needs.{needs}
 use Rattle.c_typed.proofs.cratehoist_append_address.Statement.{statement}
 use Rattle.c_typed.proofs.cratehoist_append_address.Tie as tie
 
 returns : tie.Need-returns
-returns c = (search (tells-4, written-one), search (keeps-4, written-one))
+returns c = (search (tells, written-one), search (keeps))
 
 returns-2 : tie.Need-returns-2
-returns-2 c = (search (tells-6, written-one), search (keeps-6, written-one))
+returns-2 c = (search (tells, written-one), search (keeps))
 
 returns-3 : tie.Need-returns-3
-returns-3 c = (search (tells-none, written-one), search (keeps-none, written-one))
+returns-3 c = (search (tells-none, written-one), search (keeps-none))
 
 pub cratehoist-append-address-spec : {M : Type 1} → statement M
 cratehoist-append-address-spec =
