@@ -3,6 +3,7 @@ ghost use mathlib.Core.Path.{_≡_};
 ghost use Rattle.names.specs.Names.{attributeName, codeName, numberName, methodName};
 ghost use Rattle.c_names.specs.Said.{told, classTold};
 use wire::method::Method;
+use wire::types::class_numbered;
 
 // The first `size` bytes of the text; empty where there is no name.
 #[repr(C)]
@@ -53,7 +54,7 @@ pub extern "C" fn cratehoist_class_name(message_class: u16) -> Name
             size: 0,
         };
     }
-    name_said(names::class(c_wire::class_numbered(message_class)))
+    name_said(names::class(class_numbered(message_class)))
 }
 
 #[no_mangle]

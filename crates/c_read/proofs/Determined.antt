@@ -4,9 +4,9 @@ use mathlib.Core.List.{List}
 use Rattle.base.specs.DeterminedLaws.{by}
 use Rattle.base.specs.Determined.{Determines}
 use Rattle.rfc5389.specs.Rows.{rfc5389}
-use Rattle.attribute.specs.Walk.{walkAt}
+use Rattle.attribute.specs.Walk.{walkSaid, walkAt}
 use Rattle.message.specs.Reading.{readingOf}
-use Rattle.c_read.specs.Said.{said, stepped}
+use Rattle.c_read.specs.Said.{said, stepOut}
 use Rattle.c_read.specs.declared.Reading.{Reading}
 use Rattle.c_read.specs.declared.Step.{Step}
 use Rattle.c_read.proofs.cratehoist_read.Kinds as read-kinds
@@ -25,5 +25,5 @@ pub determined-cratehoist-walk : Determines walk-kinds.ps walk-kinds.r {I = List
     (λ κs a. (a .0 .now, a .1 .0)) (λ κs z e. z)
 determined-cratehoist-walk =
     by walk-kinds.ps walk-kinds.r walk-reads.Asked walk-reads.Learnt _ _
-    (λ x. stepped (walkAt (x .0) (x .1)))
+    (λ x. stepOut (walkSaid (walkAt (x .0) (x .1))))
     (λ κs a y d i q. q)

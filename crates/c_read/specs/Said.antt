@@ -1,28 +1,38 @@
--- What C is told of a reading and of a step of the walk: the library's answers in numbers, nought where there is nothing to tell.
+-- What C is told of a reading and of a step of the walk: what the library's answer says, field by field, and nought where it says nothing.
 use Prim.Native.Nat.{ℕ}
-use mathlib.Core.List.{List}
-use Rattle.wire.specs.TypeNumber.{classNumber}
-use Rattle.attribute.specs.declared.Walk.{Walk}
-use Rattle.attribute.specs.declared.Walk.the-variants.{Attribute, End, Cut}
-use Rattle.message.specs.declared.Answer.{Answer}
-use Rattle.message.specs.declared.Answer.the-variants.{Whole, Broken, Refused}
+use mathlib.Core.List.{List, []}
+use lib.Dec.{eqb}
+use lib.ListN.{getD}
+use Rattle.base.specs.Choice.{pick}
+use Rattle.base.specs.Said.{Said}
+use Rattle.message.specs.Reading.{answerSaid}
 use Rattle.message.specs.declared.Reading as message
 use Rattle.c_read.specs.declared.Reading.{Reading}
 use Rattle.c_read.specs.declared.Step.{Step}
 
--- 0 whole, 1 broken, 2 refused
-unfoldable pub saidBy : Answer → List ℕ → Reading
-saidBy (Whole c m n) id =
-    record { what = 0; number = 0; «message_class» = classNumber c; method = m .code; count = n; place = 0; id = record { bytes = id } }
-saidBy (Broken c m r p) id =
-    record { what = 1; number = r; «message_class» = classNumber c; method = m .code; count = 0; place = p; id = record { bytes = id } }
-saidBy (Refused n) id = record { what = 2; number = n; «message_class» = 0; method = 0; count = 0; place = 0; id = record { bytes = id } }
+-- class, method and a third value: where whole, kind 0, how many attributes there are, else the place of the one at fault
+unfoldable pub readingOut : Said → List ℕ → Reading
+readingOut s id = record {
+  what = s .kind;
+  number = s .number;
+  «message_class» = getD (s .values) 0 0;
+  method = getD (s .values) 1 0;
+  count = pick (eqb (s .kind) 0) (getD (s .values) 2 0) 0;
+  place = pick (eqb (s .kind) 0) 0 (getD (s .values) 2 0);
+  id = record { bytes = id };
+}
 
+-- what the answer says, with the ID beside it
 unfoldable pub said : message.Reading → Reading
-said r = saidBy (r .answer) (r .id .bytes)
+said r = readingOut (answerSaid (r .answer) []) (r .id .bytes)
 
--- 0 an attribute, 1 the end, 2 the cut
-unfoldable pub stepped : Walk → Step
-stepped (Attribute p k v n x) = record { what = 0; kind = k; place = p; value = v; size = n; next = x }
-stepped (End p) = record { what = 1; kind = 0; place = p; value = 0; size = 0; next = 0 }
-stepped (Cut p) = record { what = 2; kind = 0; place = p; value = 0; size = 0; next = 0 }
+-- the place, and of an attribute also its type, its value's place and size, and where the next one starts
+unfoldable pub stepOut : Said → Step
+stepOut s = record {
+  what = s .kind;
+  kind = getD (s .values) 1 0;
+  place = getD (s .values) 0 0;
+  value = getD (s .values) 2 0;
+  size = getD (s .values) 3 0;
+  next = getD (s .values) 4 0;
+}

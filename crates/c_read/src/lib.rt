@@ -1,9 +1,9 @@
 // What C calls: the reading and the walk, in numbers.
 ghost use mathlib.Core.Path.{_≡_};
 ghost use Rattle.rfc5389.specs.Rows.{rfc5389};
-ghost use Rattle.attribute.specs.Walk.{walkAt};
+ghost use Rattle.attribute.specs.Walk.{walkSaid, walkAt};
 ghost use Rattle.message.specs.Reading.{readingOf};
-ghost use Rattle.c_read.specs.Said.{said, stepped};
+ghost use Rattle.c_read.specs.Said.{said, stepOut};
 use c_wire::Id;
 use message::Answer;
 
@@ -78,7 +78,7 @@ pub extern "C" fn cratehoist_read(datagram: &[u8]) -> Reading
 }
 
 fn step_said(w: attribute::Walk) -> Step
-    ensures { λ r. ⌜ r ≡ stepped w ⌝ }
+    ensures { λ r. ⌜ r ≡ stepOut (walkSaid w) ⌝ }
 {
     match w {
         attribute::Walk::Attribute {
@@ -116,7 +116,7 @@ fn step_said(w: attribute::Walk) -> Step
 
 #[no_mangle]
 pub extern "C" fn cratehoist_walk(datagram: &[u8], place: usize) -> Step
-    ensures { λ r. ⌜ r ≡ stepped (walkAt (now (datagram .entry)) place) ⌝ }
+    ensures { λ r. ⌜ r ≡ stepOut (walkSaid (walkAt (now (datagram .entry)) place)) ⌝ }
 {
     step_said(attribute::walk_at(datagram, place))
 }

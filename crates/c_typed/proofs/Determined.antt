@@ -11,7 +11,7 @@ use Rattle.append.specs.Append.{answer, appended}
 use Rattle.append_typed.specs.Typed.{typed, refusal, textRefusal}
 use Rattle.error_codes.specs.ErrorCode.{codeValue, codeRefusal}
 use Rattle.c_write.specs.Said.{told}
-use Rattle.c_typed.specs.Said.{typedSaid}
+use Rattle.c_typed.specs.Said.{typedTold}
 use Rattle.c_typed.specs.Given.{refusalOf, attrOf}
 use Rattle.c_typed.specs.declared.Typed.{Typed}
 use Rattle.c_wire.specs.declared.Address.{Address}
@@ -34,7 +34,7 @@ pub determined-cratehoist-typed-value : Determines typed-value-kinds.ps typed-va
     (λ κs a. (a .0, a .1 .0 .now, a .1 .1 .0)) (λ κs z e. z)
 determined-cratehoist-typed-value =
     by typed-value-kinds.ps typed-value-kinds.r typed-value-reads.Asked typed-value-reads.Learnt _ _
-    (λ x. typedSaid (typedOf rfc5389 (x .0) (x .1) (record { bytes = (x .2) .bytes })) (partAt rfc5389 (x .0) (x .1)) (length (partOf rfc5389 (x .0) (x .1))))
+    (λ x. typedTold (typedOf rfc5389 (x .0) (x .1) (record { bytes = (x .2) .bytes })) (partAt rfc5389 (x .0) (x .1)) (length (partOf rfc5389 (x .0) (x .1))))
     (λ κs a y d i q. q)
 
 pub determined-cratehoist-refusal : Determines refusal-kinds.ps refusal-kinds.r {I = ℕ × List ℕ} {A = ℕ} refusal-reads.Asked refusal-reads.Learnt

@@ -1,6 +1,6 @@
 -- What the call returns, case by case.
 use Prim.Native.Nat.{ℕ}
-use mathlib.Core.List.{List}
+use mathlib.Core.List.{List, []}
 use mathlib.Core.Bool.{Bool, true, false}
 use mathlib.Core.Path.{_≡_, refl, sym, ap, ap₂, _∙_}
 use lib.ListN.{length}
@@ -13,11 +13,11 @@ use Rattle.rfc5389.specs.Rows.{rfc5389, ruleOf}
 use Rattle.rfc5389.specs.Fault.{fault}
 use Rattle.rfc5389.specs.declared.Rule.{Rule}
 use Rattle.rfc5389.specs.declared.Rule.the-variants as rule
-use Rattle.typed.specs.Typed.{without, saidBy, readOf, typedOf, startBy, partAt, partOf}
+use Rattle.typed.specs.Typed.{valueSaid, without, saidBy, readOf, typedOf, startBy, partAt, partOf}
 use Rattle.typed.specs.declared.Value.{Value}
 use Rattle.typed.specs.declared.Value.the-variants.{Address, Code, Plain, Refused}
 use Rattle.typed.specs.declared.Typed as typed
-use Rattle.c_typed.specs.Said.{typedBy, typedSaid}
+use Rattle.c_typed.specs.Said.{typedOut, typedTold}
 
 -- only an error code's part starts behind the value's front
 abbrev startIn : Value → ℕ
@@ -43,33 +43,33 @@ starts k v id = starts-by (eqb (fault rfc5389 k v) 0) (ruleOf rfc5389 k) v id (f
 
 module _ (k : ℕ) (v : List ℕ) (id : TransactionId) {t : typed.Typed} (e : t ≡ typedOf rfc5389 k v id) {p : List ℕ} (q : p ≡ partOf rfc5389 k v) where
   by-value : (x : Value) → t .value ≡ x
-      → typedBy x (t .ip) (startIn x) (length p) ≡ typedSaid (typedOf rfc5389 k v id) (partAt rfc5389 k v) (length (partOf rfc5389 k v))
-  unfolding typedSaid
+      → typedOut (valueSaid x []) (t .ip) (startIn x) (length p) ≡ typedTold (typedOf rfc5389 k v id) (partAt rfc5389 k v) (length (partOf rfc5389 k v))
+  unfolding typedTold
   by-value x f =
-      ap (λ (y : Value). typedBy y (t .ip) (startIn y) (length p)) (sym f)
-      ∙ ap (λ (z : typed.Typed). typedBy (z .value) (z .ip) (startIn (z .value)) (length p)) e
-      ∙ ap₂ (λ (a n : ℕ). typedBy (typedOf rfc5389 k v id .value) (typedOf rfc5389 k v id .ip) a n) (starts k v id) (ap length q)
+      ap (λ (y : Value). typedOut (valueSaid y []) (t .ip) (startIn y) (length p)) (sym f)
+      ∙ ap (λ (z : typed.Typed). typedOut (valueSaid (z .value) []) (z .ip) (startIn (z .value)) (length p)) e
+      ∙ ap₂ (λ (a n : ℕ). typedOut (valueSaid (typedOf rfc5389 k v id .value) []) (typedOf rfc5389 k v id .ip) a n) (starts k v id) (ap length q)
 
   pub address : {f : Family} {o n : ℕ} → t .value ≡ Address f o → n ≡ familyNumber f
       → record { number = 0; family = n; port = o; code = 0; ip = t .ip; start = 0; size = length p }
-      ≡ typedSaid (typedOf rfc5389 k v id) (partAt rfc5389 k v) (length (partOf rfc5389 k v))
-  unfolding typedBy
+      ≡ typedTold (typedOf rfc5389 k v id) (partAt rfc5389 k v) (length (partOf rfc5389 k v))
+  unfolding typedOut valueSaid
   address {f} {o} g h = rw h (by-value (Address f o) g)
 
   pub code : {c : ℕ} → t .value ≡ Code c
       → record { number = 0; family = 0; port = 0; code = c; ip = t .ip; start = 4; size = length p }
-      ≡ typedSaid (typedOf rfc5389 k v id) (partAt rfc5389 k v) (length (partOf rfc5389 k v))
-  unfolding typedBy
+      ≡ typedTold (typedOf rfc5389 k v id) (partAt rfc5389 k v) (length (partOf rfc5389 k v))
+  unfolding typedOut valueSaid
   code {c} g = by-value (Code c) g
 
   pub plain : t .value ≡ Plain
       → record { number = 0; family = 0; port = 0; code = 0; ip = t .ip; start = 0; size = length p }
-      ≡ typedSaid (typedOf rfc5389 k v id) (partAt rfc5389 k v) (length (partOf rfc5389 k v))
-  unfolding typedBy
+      ≡ typedTold (typedOf rfc5389 k v id) (partAt rfc5389 k v) (length (partOf rfc5389 k v))
+  unfolding typedOut valueSaid
   plain g = by-value Plain g
 
   pub faulty : {n : ℕ} → t .value ≡ Refused n
       → record { number = n; family = 0; port = 0; code = 0; ip = t .ip; start = 0; size = length p }
-      ≡ typedSaid (typedOf rfc5389 k v id) (partAt rfc5389 k v) (length (partOf rfc5389 k v))
-  unfolding typedBy
+      ≡ typedTold (typedOf rfc5389 k v id) (partAt rfc5389 k v) (length (partOf rfc5389 k v))
+  unfolding typedOut valueSaid
   faulty {n} g = by-value (Refused n) g

@@ -8,7 +8,7 @@ ghost use Rattle.append.specs.Append.{answer, appended};
 ghost use Rattle.append_typed.specs.Typed.{typed, refusal, textRefusal};
 ghost use Rattle.error_codes.specs.ErrorCode.{codeValue, codeRefusal};
 ghost use Rattle.c_write.specs.Said.{told};
-ghost use Rattle.c_typed.specs.Said.{typedSaid};
+ghost use Rattle.c_typed.specs.Said.{typedTold};
 ghost use Rattle.c_typed.specs.Given.{refusalOf, attrOf};
 use addresses::append_address;
 use append_typed::append_value;
@@ -35,7 +35,7 @@ pub struct Typed {
 
 #[no_mangle]
 pub extern "C" fn cratehoist_typed_value(kind: u16, value: &[u8], id: Id) -> Typed
-    ensures { λ r. ⌜ r ≡ typedSaid (typedOf rfc5389 kind (now (value .entry)) (record { bytes = id .bytes })) (partAt rfc5389 kind (now (value .entry))) (length (partOf rfc5389 kind (now (value .entry)))) ⌝ }
+    ensures { λ r. ⌜ r ≡ typedTold (typedOf rfc5389 kind (now (value .entry)) (record { bytes = id .bytes })) (partAt rfc5389 kind (now (value .entry))) (length (partOf rfc5389 kind (now (value .entry)))) ⌝ }
 {
     let bytes = id.bytes;
     let t = typed::value_of(kind, value, TransactionId { bytes: bytes });

@@ -4,9 +4,9 @@ use mathlib.Core.List.{List}
 use Rattle.base.specs.DeterminedLaws.{by}
 use Rattle.base.specs.Determined.{Determines}
 use Rattle.rfc5389.specs.Rows.{rfc5389}
-use Rattle.value.specs.First.{firstIn, first, placed}
+use Rattle.value.specs.First.{firstSaid, firstIn, first, placed}
 use Rattle.integrity.specs.Integrity.{integrityFault}
-use Rattle.c_value.specs.Said.{found, valueIn, realmIn}
+use Rattle.c_value.specs.Said.{firstOut, valueIn, realmIn}
 use Rattle.c_value.specs.declared.First.{First}
 use Rattle.c_value.specs.declared.Part.{Part}
 use Rattle.c_value.proofs.cratehoist_search.Kinds as search-kinds
@@ -22,7 +22,7 @@ pub determined-cratehoist-search : Determines search-kinds.ps search-kinds.r {I 
     (λ κs a. (a .0 .now, a .1 .0)) (λ κs z e. z)
 determined-cratehoist-search =
     by search-kinds.ps search-kinds.r search-reads.Asked search-reads.Learnt _ _
-    (λ x. found (placed (firstIn (x .1) (x .0))))
+    (λ x. firstOut (firstSaid (placed (firstIn (x .1) (x .0)))))
     (λ κs a y d i q. q)
 
 pub determined-cratehoist-first-value : Determines first-value-kinds.ps first-value-kinds.r {I = List ℕ × ℕ} {A = Part} first-value-reads.Asked first-value-reads.Learnt

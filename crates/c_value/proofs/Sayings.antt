@@ -6,21 +6,21 @@ use mathlib.Core.Path.{_≡_, sym, ap, _∙_}
 use native.Mathlib.Omega.{arith}
 use lib.ListN.{length, take, drop, length-take, length-drop}
 use Rattle.rfc5389.specs.Rows.{rfc5389}
-use Rattle.value.specs.First.{first, placed, isThere, valueOf, valueAt}
+use Rattle.value.specs.First.{firstSaid, first, placed, isThere, valueOf, valueAt}
 use Rattle.value.specs.FirstLaws as laws
 use Rattle.value.specs.declared.First as value
 use Rattle.value.specs.declared.First.the-variants.{Found, Absent}
 use Rattle.realm.specs.Realm.{realmOf}
-use Rattle.c_value.specs.Said.{found, valueIn, realmIn}
+use Rattle.c_value.specs.Said.{firstOut, valueIn, realmIn}
 
 module _ (f : value.First) where
-  pub one : {p n : ℕ} → f ≡ Found p n → record { there = true; place = p; size = n } ≡ found f
-  unfolding found
-  one e = ap found (sym e)
+  pub one : {p n : ℕ} → f ≡ Found p n → record { there = true; place = p; size = n } ≡ firstOut (firstSaid f)
+  unfolding firstOut firstSaid
+  one e = ap (λ (x : value.First). firstOut (firstSaid x)) (sym e)
 
-  pub no-one : f ≡ Absent → record { there = false; place = 0; size = 0 } ≡ found f
-  unfolding found
-  no-one e = ap found (sym e)
+  pub no-one : f ≡ Absent → record { there = false; place = 0; size = 0 } ≡ firstOut (firstSaid f)
+  unfolding firstOut firstSaid
+  no-one e = ap (λ (x : value.First). firstOut (firstSaid x)) (sym e)
 
 module _ (d : List ℕ) (k : ℕ) {f : value.First} (e : f ≡ placed (first rfc5389 k d)) where
   module _ {p n : ℕ} (g : f ≡ Found p n) where

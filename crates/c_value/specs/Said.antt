@@ -1,19 +1,18 @@
--- What C is told of the first attribute of a type, and of a part: the library's answers in numbers.
+-- What C is told of the first attribute of a type, and of a part: what the library's answer says, field by field.
 use Prim.Native.Nat.{ℕ}
 use mathlib.Core.List.{List}
-use mathlib.Core.Bool.{true, false}
-use lib.ListN.{length}
+use lib.Dec.{eqb}
+use lib.ListN.{length, getD}
+use Rattle.base.specs.Said.{Said}
 use Rattle.rfc5389.specs.Rows.{rfc5389}
 use Rattle.value.specs.First.{Place, first, isThere, valueOf, valueAt}
-use Rattle.value.specs.declared.First as value
-use Rattle.value.specs.declared.First.the-variants.{Found, Absent}
 use Rattle.realm.specs.Realm.{realmOf}
 use Rattle.c_value.specs.declared.First.{First}
 use Rattle.c_value.specs.declared.Part.{Part}
 
-unfoldable pub found : value.First → First
-found (Found p n) = record { there = true; place = p; size = n }
-found Absent = record { there = false; place = 0; size = 0 }
+-- found is kind 0, with place and size; absent says nothing more
+unfoldable pub firstOut : Said → First
+firstOut s = record { there = eqb (s .kind) 0; place = getD (s .values) 0 0; size = getD (s .values) 1 0 }
 
 -- a value, as a part of the datagram
 unfoldable pub valueIn : Place → Part

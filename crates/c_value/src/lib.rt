@@ -2,9 +2,9 @@
 // A part is told by where it starts in the lent bytes, and its size.
 ghost use mathlib.Core.Path.{_≡_};
 ghost use Rattle.rfc5389.specs.Rows.{rfc5389};
-ghost use Rattle.value.specs.First.{firstIn, first, placed};
+ghost use Rattle.value.specs.First.{firstSaid, firstIn, first, placed};
 ghost use Rattle.integrity.specs.Integrity.{integrityFault};
-ghost use Rattle.c_value.specs.Said.{found, valueIn, realmIn};
+ghost use Rattle.c_value.specs.Said.{firstOut, valueIn, realmIn};
 // Where the first attribute of a type starts, and the size of its value.
 #[repr(C)]
 pub struct First {
@@ -21,7 +21,7 @@ pub struct Part {
 }
 
 fn first_said(f: value::First) -> First
-    ensures { λ r. ⌜ r ≡ found f ⌝ }
+    ensures { λ r. ⌜ r ≡ firstOut (firstSaid f) ⌝ }
 {
     match f {
         value::First::Found { at, size } => First {
@@ -39,7 +39,7 @@ fn first_said(f: value::First) -> First
 
 #[no_mangle]
 pub extern "C" fn cratehoist_search(bytes: &[u8], kind: u16) -> First
-    ensures { λ r. ⌜ r ≡ found (placed (firstIn kind (now (bytes .entry)))) ⌝ }
+    ensures { λ r. ⌜ r ≡ firstOut (firstSaid (placed (firstIn kind (now (bytes .entry))))) ⌝ }
 {
     first_said(value::search(bytes, kind))
 }
@@ -74,10 +74,10 @@ pub extern "C" fn cratehoist_realm(datagram: &[u8], configured: &[u8]) -> Part
     let f = value::find(datagram, realm::REALM);
     match f {
         value::First::Found { at, size } => {
-            let start = at + 4;
+            let own = at + 4;
             Part {
                 there: true,
-                start,
+                start: own,
                 size,
             }
         }

@@ -1,24 +1,12 @@
--- The contracts of the calls determine their answers and the buffer.
-use Prim.Native.Nat.{ℕ}
+-- The contract of the call determines its answer.
 use Rattle.base.specs.DeterminedLaws.{by}
 use Rattle.base.specs.Determined.{Determines}
-use Rattle.wire.specs.TypeNumber.{classNumbered}
 use Rattle.c_wire.specs.Said.{formOf}
 use Rattle.c_wire.specs.declared.Address.{Address}
 use Rattle.c_wire.specs.declared.Formed.{Formed}
 use Rattle.c_wire.specs.declared.Id.{Id}
-use Rattle.wire.specs.declared.types.MessageClass.{MessageClass}
-use Rattle.c_wire.proofs.class_numbered.Kinds as class-numbered-kinds
-use Rattle.c_wire.proofs.class_numbered.Reads as class-numbered-reads
 use Rattle.c_wire.proofs.cratehoist_address_xor.Kinds as address-xor-kinds
 use Rattle.c_wire.proofs.cratehoist_address_xor.Reads as address-xor-reads
-
-pub determined-class-numbered : Determines class-numbered-kinds.ps class-numbered-kinds.r {I = ℕ} {A = MessageClass} class-numbered-reads.Asked class-numbered-reads.Learnt
-    (λ κs a. a .0) (λ κs z e. z)
-determined-class-numbered =
-    by class-numbered-kinds.ps class-numbered-kinds.r class-numbered-reads.Asked class-numbered-reads.Learnt _ _
-    (λ x. classNumbered x)
-    (λ κs a y d i q. q)
 
 pub determined-cratehoist-address-xor : Determines address-xor-kinds.ps address-xor-kinds.r {I = Address × Id} {A = Formed} address-xor-reads.Asked address-xor-reads.Learnt
     (λ κs a. (a .0, a .1 .0)) (λ κs z e. z)

@@ -1,11 +1,9 @@
-// What C calls: the XOR form of an address; and what the other crates for C share. Classes and families are numbers there.
+// What C calls: the XOR form of an address; and the structs that the other crates for C share. A family is a number there.
 ghost use mathlib.Core.Path.{_≡_};
-ghost use Rattle.wire.specs.TypeNumber.{classNumbered};
 ghost use Rattle.c_wire.specs.Said.{formed, formOf};
 use net::Family;
 use net::SocketAddr;
 use wire::transaction_id::TransactionId;
-use wire::types::MessageClass;
 
 // A transaction ID.
 #[repr(C)]
@@ -26,18 +24,6 @@ pub struct Address {
 pub struct Formed {
     pub number: u8,
     pub address: Address,
-}
-
-// The class of a number below four.
-pub fn class_numbered(n: u16) -> MessageClass
-    ensures { λ r. ⌜ r ≡ classNumbered n ⌝ }
-{
-    match n {
-        0 => MessageClass::Request,
-        1 => MessageClass::Indication,
-        2 => MessageClass::SuccessResponse,
-        _ => MessageClass::ErrorResponse,
-    }
 }
 
 // The XOR form of an address of a family that there is.

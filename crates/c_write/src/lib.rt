@@ -6,6 +6,7 @@ ghost use Rattle.c_write.specs.Said.{told, begunBy, leftBy};
 use c_wire::Id;
 use wire::method::Method;
 use wire::transaction_id::TransactionId;
+use wire::types::class_numbered;
 
 // The message's size from now on, where `number` is 0.
 #[repr(C)]
@@ -40,7 +41,7 @@ pub extern "C" fn cratehoist_begin(
             size: 0,
         };
     }
-    let class = c_wire::class_numbered(message_class);
+    let class = class_numbered(message_class);
     let bytes = id.bytes;
     in_numbers(begin::begin(
         buffer,

@@ -1,9 +1,9 @@
 -- The type number and its class and method are inverse to each other, on their whole range.
 use Prim.Native.Nat.{ℕ, zero, suc, _+_, _*_, _/_, _%_, _<_}
-use mathlib.Core.Path.{_≡_, refl}
+use mathlib.Core.Path.{_≡_, refl, sym, ap, _∙_}
 use native.Mathlib.Omega.{arith}
-use borrow.Author.Tests.{lt-ltb}
-use Rattle.wire.specs.TypeNumber.{typeOf, classOf, methodOf, classNumber, classNumbered, typeNumber, typeFrom}
+use borrow.Author.Tests.{lt-ltb, le-ltb}
+use Rattle.wire.specs.TypeNumber.{typeOf, classOf, methodOf, classNumber, classNumbered, atMostThree, typeNumber, typeFrom}
 use Rattle.wire.specs.declared.types.MessageClass.{MessageClass}
 use Rattle.wire.specs.declared.types.MessageClass.the-variants.{Request, Indication, SuccessResponse, ErrorResponse}
 use Rattle.wire.specs.declared.types.MessageType.{MessageType}
@@ -145,25 +145,16 @@ class-small Indication = omega arith
 class-small SuccessResponse = omega arith
 class-small ErrorResponse = omega arith
 
--- the arms of the match on a class's number
-pub arm-0 : {n : ℕ} → n ≡ 0 → Request ≡ classNumbered n
-unfolding classNumbered
-arm-0 e = rw e
-
-pub arm-1 : {n : ℕ} → n ≡ 1 → Indication ≡ classNumbered n
-unfolding classNumbered
-arm-1 e = rw e
-
-pub arm-2 : {n : ℕ} → n ≡ 2 → SuccessResponse ≡ classNumbered n
-unfolding classNumbered
-arm-2 e = rw e
-
-pub arm-rest : (n : ℕ) → (n ≡ 0 → ⊥) → (n ≡ 1 → ⊥) → (n ≡ 2 → ⊥) → ErrorResponse ≡ classNumbered n
-unfolding classNumbered
-arm-rest zero a b e = absurd (a refl)
-arm-rest (suc zero) a b e = absurd (b refl)
-arm-rest (suc (suc zero)) a b e = absurd (e refl)
-arm-rest (suc (suc (suc n))) a b e = refl
+-- a class is told by its number
+pub class-is : (n : ℕ) (c : MessageClass) → classNumber c ≡ atMostThree n → c ≡ classNumbered n
+unfolding atMostThree classNumbered
+class-is n c e = sym (class-numbered c) ∙ ap classNumbered e ∙ last n
+  where
+    last : (n : ℕ) → classNumbered (atMostThree n) ≡ classNumbered n
+    last zero = refl
+    last (suc zero) = refl
+    last (suc (suc zero)) = refl
+    last (suc (suc (suc n))) = rw (le-ltb (suc (suc (suc n))) 3 (omega arith))
 
 -- a class and a method, made a type number, are read from it
 pub type-back : (t : MessageType) → t .method .code < 4096 → typeFrom (typeOf (classNumber (t .class)) (t .method .code)) ≡ Known t

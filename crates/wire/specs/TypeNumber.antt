@@ -37,6 +37,10 @@ classNumbered (suc zero) = Indication
 classNumbered (suc (suc zero)) = SuccessResponse
 classNumbered (suc (suc (suc n))) = ErrorResponse
 
+-- of a number that is none of a class, the last counts
+unfoldable pub atMostThree : ℕ → ℕ
+atMostThree n = pick (ltb n 3) n 3
+
 -- a method is a number of twelve bits: else 22
 unfoldable pub methodMade : ℕ → NewMethod
 methodMade m = pick (ltb m 4096) (new.Made (record { code = m })) (new.Refused 22)

@@ -1,7 +1,7 @@
 // The class of a message, and the type number that class and method make.
 ghost use mathlib.Core.Path.{_≡_};
 ghost use Prim.Native.Nat.{_<_};
-ghost use Rattle.wire.specs.TypeNumber.{classNumber, classNumbered, typeNumber, typeFrom, typeOf, typeNumberSaid, fromNumberSaid};
+ghost use Rattle.wire.specs.TypeNumber.{classNumber, atMostThree, typeNumber, typeFrom, typeOf, typeNumberSaid, fromNumberSaid};
 use crate::method::Method;
 
 pub enum MessageClass {
@@ -40,9 +40,9 @@ impl MessageClass {
     }
 }
 
-// The class of a number below four.
-fn class_numbered(n: u16) -> MessageClass
-    ensures { λ r. ⌜ r ≡ classNumbered n ⌝ }
+// The class of a number below four; any above is taken for the last.
+pub fn class_numbered(n: u16) -> MessageClass
+    ensures { λ r. ⌜ classNumber r ≡ atMostThree n ⌝ }
 {
     match n {
         0 => MessageClass::Request,

@@ -5,8 +5,8 @@ use borrow.Author.Needs.{needs}
 use Rattle.c_value.proofs.cratehoist_realm.Statement.{statement}
 use Rattle.c_value.proofs.cratehoist_realm.Tie as tie
 
-add-start : tie.Need-add-start
-add-start c = omega (arith, room _ _ (first-one (c .before .before .before .find .ensures)) (c .before .f .given .1))
+add-own : tie.Need-add-own
+add-own c = omega (arith, room _ _ (first-one (c .before .before .before .find .ensures)) (c .before .f .given .1))
 
 returns : tie.Need-returns
 returns c = search (realm, first-one)
@@ -15,4 +15,4 @@ returns-2 : tie.Need-returns-2
 returns-2 c = search (no-realm, first-one)
 
 pub cratehoist-realm-spec : {M : Type 1} → statement M
-cratehoist-realm-spec = tie.close (tie.spec (λ c κs. search needs) (λ c. search needs) add-start (λ c. search needs) returns returns-2)
+cratehoist-realm-spec = tie.close (tie.spec (λ c κs. search needs) (λ c. search needs) add-own (λ c. search needs) returns returns-2)

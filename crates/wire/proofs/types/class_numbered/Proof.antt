@@ -1,4 +1,4 @@
-use Rattle.wire.specs.TypeLaws.{arm-0, arm-1, arm-2, arm-rest}
+use Rattle.wire.proofs.Classes.{arm-0, arm-1, arm-2, arm-rest}
 use Rattle.wire.proofs.types.class_numbered.Statement.{statement}
 use Rattle.wire.proofs.types.class_numbered.Tie as tie
 
