@@ -1,41 +1,18 @@
 // stun: the front door. Shows, lists, writes and checks STUN messages; every rule is the library's.
-ghost use mathlib.Core.Path.{_≡_};
-ghost use Prim.Native.Nat.{min};
-ghost use Rattle.rfc5389.specs.Rows.{rfc5389};
-ghost use Rattle.integrity.specs.Integrity.{integrityFault};
-
-mod answers;
-mod calls;
-mod dump;
-mod feed;
-mod fields;
-mod input;
-mod kinds;
-mod lines;
-mod output;
-mod person;
-mod progress;
-mod read;
-mod say;
-mod wants;
-mod write;
-
-use answers::Job;
-use answers::MOST;
-use answers::part;
-use fields::position;
-use input::Form;
-use output::complain;
-use output::complain_column;
-use output::fail;
-use output::status;
-use person::number;
-use say::end;
-use say::say;
+use stun_file::Form;
+use stun_io::errors::complain;
+use stun_io::errors::complain_column;
+use stun_io::errors::fail;
+use stun_io::errors::status;
+use stun_io::parts::plus_u64;
+use stun_io::unbuffered::end;
+use stun_io::unbuffered::print;
+use stun_io::words::position;
+use stun_lines::answers::Job;
 use text::Hex;
 
 fn help() {
-    say(
+    print(
         b"stun read FILE|- [--hex | --raw]\n\
         \x20   a datagram shown for a person, from raw bytes or hex text; ends with 1 where it is broken or refused\n\
         stun lines [--walk | --values | --key HEX] < FILE\n\
@@ -56,7 +33,7 @@ fn help() {
 }
 
 // An argument's place in a list of words.
-pub fn word_at(i: usize, list: &[u8]) -> usize {
+fn word_at(i: usize, list: &[u8]) -> usize {
     let mut arg = [0u8; 16];
     let n = os::arg(i, &mut arg);
     position(&arg[..n], list)
@@ -74,7 +51,7 @@ fn refuse(i: usize) {
 
 fn bad_key(p: usize) -> usize {
     complain(b"stun: the key");
-    complain_column(lines::plus(p as u64, 1));
+    complain_column(plus_u64(p as u64, 1));
     status(2);
     usize::MAX
 }
@@ -96,7 +73,7 @@ fn key_of(s: &[u8], key: &mut [u8]) -> usize {
 }
 
 // Is the argument whole that was read last?
-pub fn is_whole(what: &[u8]) -> bool {
+fn is_whole(what: &[u8]) -> bool {
     if os::errno() == 0 {
         return true;
     }
@@ -124,7 +101,7 @@ fn takes(count: usize) -> bool {
 
 fn lines_of(job: Job) {
     if takes(3) {
-        lines::run(job, b"");
+        stun_lines::run(job, b"");
     }
 }
 
@@ -137,35 +114,14 @@ fn keyed_lines() {
     if key.len() < n {
         return;
     }
-    lines::run(Job::Keyed, &key[0..n]);
-}
-
-// What a number makes the program end with.
-pub fn status_of(n: u8) -> u8
-    ensures { λ r. ⌜ r ≡ min 1 n ⌝ }
-{
-    if n == 0 {
-        return 0;
-    }
-    1
-}
-
-// Answers what to end with.
-fn check_datagram(d: &[u8], key: &[u8]) -> u8
-    ensures { λ r. ⌜ r ≡ min 1 (integrityFault rfc5389 (now (d .entry)) (now (key .entry))) ⌝ }
-{
-    let n = integrity::check_integrity(d, key);
-    say(b"integrity ");
-    number(n);
-    end();
-    status_of(n)
+    stun_lines::run(Job::Keyed, &key[0..n]);
 }
 
 fn check_with(key: &[u8]) {
-    let mut raw = [0u8; MOST];
-    let f = input::datagram_at(3, Form::Told, &mut raw);
-    if f.good {
-        status(check_datagram(part(&raw, 0, f.size), key));
+    let mut path = io::buffer();
+    let n = os::arg(3, &mut path);
+    if is_whole(b"stun: the file's name") {
+        stun_read::check(&path[..n], key);
     }
 }
 
@@ -181,6 +137,43 @@ fn check_command() {
         return;
     }
     check_with(&key[0..n]);
+}
+
+fn read_at(i: usize, form: Form) {
+    let mut path = io::buffer();
+    let n = os::arg(i, &mut path);
+    if is_whole(b"stun: the file's name") {
+        stun_read::read(&path[..n], form);
+    }
+}
+
+// A form before or behind the file.
+fn with_form(i: usize, at: usize) -> bool {
+    let form = word_at(i, b"--hex --raw");
+    match form {
+        0 => read_at(at, Form::Hex),
+        1 => read_at(at, Form::Raw),
+        _ => return false,
+    }
+    true
+}
+
+fn read_command() {
+    let n = os::arg_count();
+    if n == 3 {
+        read_at(2, Form::Told);
+        return;
+    }
+    if n == 4 {
+        if with_form(3, 2) {
+            return;
+        }
+        if with_form(2, 3) {
+            return;
+        }
+    }
+    complain(b"stun: read takes a file (- for standard input), and --hex or --raw\n");
+    status(2);
 }
 
 fn lines_command() {
@@ -199,7 +192,7 @@ fn lines_command() {
 
 fn write_command() {
     if takes(2) {
-        write::run();
+        stun_write::run();
     }
 }
 
@@ -211,7 +204,7 @@ fn main() {
     let word = word_at(1, b"lines read write check help --help");
     match word {
         0 => lines_command(),
-        1 => read::command(),
+        1 => read_command(),
         2 => write_command(),
         3 => check_command(),
         4 | 5 => help(),

@@ -1,0 +1,26 @@
+use mathlib.Core.Path.{_≡_}
+use lib.ListN.{length}
+use borrow.Author.Needs.{needs}
+use Rattle.stun_file.proofs.filled.Statement.{statement}
+use Rattle.stun_file.proofs.filled.Tie as tie
+
+abbrev Inv-loop : tie.InvT-loop
+Inv-loop fd name file₀ have₀ left₀ file have left = length file ≡ length file₀
+
+abbrev μ-loop : tie.MeasureT-loop
+μ-loop fd name file₀ have₀ left₀ file have left = left
+
+pub filled-spec : {M : Type 1} → statement M
+filled-spec =
+    tie.close
+    (tie.spec
+    Inv-loop
+    μ-loop
+    (λ c. search needs)
+    (λ c κs. search needs)
+    (λ c. search needs)
+    (λ c. search needs)
+    (λ c. search needs)
+    (λ c. search needs)
+    (λ c. search needs)
+    (λ c. search needs))
