@@ -69,10 +69,10 @@ typedef struct cratehoist_digest {
     uint8_t bytes[20];
 } cratehoist_digest;
 
-typedef struct cratehoist_formed {
+typedef struct cratehoist_xor_form {
     uint8_t number;
     cratehoist_address address;
-} cratehoist_formed;
+} cratehoist_xor_form;
 
 /* An attribute: its value is `size` bytes from `value` on, and the next attribute starts at `next`. Of the end and the cut only
  * the place is told. */
@@ -152,7 +152,7 @@ cratehoist_first cratehoist_search(const uint8_t *bytes, size_t bytes_size, uint
 cratehoist_typed cratehoist_typed_value(uint16_t kind, const uint8_t *value, size_t value_size, cratehoist_id id);
 
 /* The XOR form of an address, and of an XOR form the address. A family that is neither 1 nor 2 is 12. */
-cratehoist_formed cratehoist_address_xor(cratehoist_address address, cratehoist_id id);
+cratehoist_xor_form cratehoist_address_xor(cratehoist_address address, cratehoist_id id);
 
 /* The realm to use: where `there`, a part of the datagram, the value of its first REALM; else all of the configured one. */
 cratehoist_part cratehoist_realm(const uint8_t *datagram, size_t datagram_size, const uint8_t *configured, size_t configured_size);

@@ -92,8 +92,8 @@ static void value(uint16_t kind, const uint8_t *bytes, size_t size, cratehoist_i
     if (t.family) {
         cratehoist_address a = {t.family, t.port, {0}};
         memcpy(a.ip, t.ip, 16);
-        cratehoist_formed there = cratehoist_address_xor(a, id);
-        cratehoist_formed back = cratehoist_address_xor(there.address, id);
+        cratehoist_xor_form there = cratehoist_address_xor(a, id);
+        cratehoist_xor_form back = cratehoist_address_xor(there.address, id);
         MUST(there.number == 0 && back.number == 0 && back.address.port == a.port && same(back.address.ip, a.ip, 16));
     }
     free(v.at);

@@ -6,8 +6,8 @@ use native.Mathlib.Omega.{arith}
 use borrow.Author.Tests.{le-leb, lt-leb}
 use lib.ListN.{length, take, drop, length-drop, drop-of-length-le}
 use lib.Seq.{drop-drop}
-use Rattle.numbers.specs.Numbers.{be16}
-use Rattle.numbers.specs.NumbersLaws.{four-at}
+use Rattle.big_endian.specs.Numbers.{be16}
+use Rattle.big_endian.specs.NumbersLaws.{four-at}
 use Rattle.attribute.specs.Attribute.{padded, Body, stop, more, attrOf, parse}
 use Rattle.attribute.specs.Walk.{stepAt}
 use Rattle.attribute.specs.WalkLaws.{At, beyond, ended, short, long, attribute, Stops, seen}

@@ -9,7 +9,7 @@ use lib.ListN.{length, take, drop, length-append, length-drop}
 use lib.Seq.{length-take-le}
 use lib.Dec.{leb}
 use Rattle.base.specs.Choice.{pick}
-use Rattle.numbers.specs.Numbers.{be16}
+use Rattle.big_endian.specs.Numbers.{be16}
 use Rattle.header.specs.Header.{headerFault}
 use Rattle.header.specs.HeaderLaws as header
 use Rattle.attribute.specs.Attribute.{padded, Attr, Body, stop, more, attrs, rest, attrOf, parse, bytesOf, allBytes}

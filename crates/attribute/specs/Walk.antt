@@ -5,7 +5,7 @@ use lib.ListN.{length}
 use lib.Dec.{ltb, eqb}
 use Rattle.base.specs.Choice.{pick}
 use Rattle.base.specs.Said.{Said, says}
-use Rattle.numbers.specs.Numbers.{be16}
+use Rattle.big_endian.specs.Numbers.{be16}
 use Rattle.header.specs.Header.{headerFault}
 use Rattle.attribute.specs.Attribute.{padded}
 use Rattle.attribute.specs.declared.Walk.{Walk}

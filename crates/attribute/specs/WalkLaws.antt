@@ -6,7 +6,7 @@ use native.Mathlib.Omega.{arith}
 use native.Mathlib.Decide.{decLt}
 use borrow.Author.Tests.{lt-ltb, le-ltb, eq-eqb, ne-eqb}
 use lib.ListN.{length}
-use Rattle.numbers.specs.Numbers.{be16}
+use Rattle.big_endian.specs.Numbers.{be16}
 use Rattle.attribute.specs.Attribute.{padded}
 use Rattle.attribute.specs.Walk.{stepAt}
 use Rattle.attribute.specs.declared.Walk.{Walk}

@@ -3,8 +3,8 @@ ghost use mathlib.Core.Path.{_≡_};
 ghost use Prim.Native.Nat.{_<_};
 ghost use Rattle.attribute.specs.Attribute.{padded};
 ghost use Rattle.attribute.specs.Walk.{walkSaid, stepAt, walkAt};
+use big_endian::u16_at;
 use header::Head;
-use numbers::u16_at;
 
 // What stands at a place: an attribute, whose value is `size` bytes from `value` on and whose padding ends at `next`; the end; or the cut.
 pub enum Walk {

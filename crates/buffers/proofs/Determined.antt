@@ -5,7 +5,7 @@ use mathlib.Core.List.{List}
 use mathlib.Core.Path.{ap₂}
 use Rattle.base.specs.DeterminedLaws.{by}
 use Rattle.base.specs.Determined.{Determines}
-use Rattle.numbers.specs.Numbers.{two, four}
+use Rattle.big_endian.specs.Numbers.{two, four}
 use Rattle.buffers.specs.Put.{fitsAt, put}
 use Rattle.buffers.proofs.put_bytes.Kinds as put-bytes
 use Rattle.buffers.proofs.put_bytes.Reads as put-bytes-reads

@@ -4,7 +4,7 @@ ghost use Prim.Native.Nat.{_+_, _≤_};
 ghost use lib.ListN.{length};
 ghost use lib.Dec.{leb};
 ghost use Rattle.base.specs.Laid.{laid};
-ghost use Rattle.numbers.specs.Numbers.{two, four};
+ghost use Rattle.big_endian.specs.Numbers.{two, four};
 ghost use Rattle.buffers.specs.Put.{fitsAt, put};
 
 // Is there room for n bytes at a place?

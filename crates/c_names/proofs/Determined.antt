@@ -3,7 +3,7 @@ use Prim.Native.Nat.{ℕ}
 use Rattle.base.specs.DeterminedLaws.{by}
 use Rattle.base.specs.Determined.{Determines}
 use Rattle.names.specs.Names.{attributeName, codeName, numberName, methodName}
-use Rattle.c_names.specs.Said.{told, classTold}
+use Rattle.c_names.specs.Name.{told, classTold}
 use Rattle.c_names.specs.declared.Name.{Name}
 use Rattle.c_names.proofs.cratehoist_attribute_name.Kinds as attribute-name-kinds
 use Rattle.c_names.proofs.cratehoist_attribute_name.Reads as attribute-name-reads

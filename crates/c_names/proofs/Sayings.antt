@@ -8,7 +8,7 @@ use Rattle.wire.specs.TypeLaws.{class-is}
 use Rattle.wire.specs.declared.types.MessageClass.{MessageClass}
 use Rattle.names.specs.Names.{className}
 use Rattle.names.specs.declared.Name as names
-use Rattle.c_names.specs.Said.{told, classTold}
+use Rattle.c_names.specs.Name.{told, classTold}
 use Rattle.c_names.specs.declared.Name.{Name}
 
 pub name : (n : names.Name) → record { text = n .text; size = n .size } ≡ told n

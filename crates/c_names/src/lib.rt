@@ -1,7 +1,7 @@
 // What C calls: names for a person.
 ghost use mathlib.Core.Path.{_≡_};
 ghost use Rattle.names.specs.Names.{attributeName, codeName, numberName, methodName};
-ghost use Rattle.c_names.specs.Said.{told, classTold};
+ghost use Rattle.c_names.specs.Name.{told, classTold};
 use wire::method::Method;
 use wire::types::class_numbered;
 

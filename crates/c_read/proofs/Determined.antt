@@ -3,10 +3,10 @@ use Prim.Native.Nat.{ℕ}
 use mathlib.Core.List.{List}
 use Rattle.base.specs.DeterminedLaws.{by}
 use Rattle.base.specs.Determined.{Determines}
-use Rattle.rfc5389.specs.Rows.{rfc5389}
+use Rattle.registry.specs.Rows.{rfc5389}
 use Rattle.attribute.specs.Walk.{walkSaid, walkAt}
-use Rattle.message.specs.Reading.{readingOf}
-use Rattle.c_read.specs.Said.{said, stepOut}
+use Rattle.read_message.specs.Reading.{readingOf}
+use Rattle.c_read.specs.Reading.{said, stepOut}
 use Rattle.c_read.specs.declared.Reading.{Reading}
 use Rattle.c_read.specs.declared.Step.{Step}
 use Rattle.c_read.proofs.cratehoist_read.Kinds as read-kinds

@@ -8,11 +8,11 @@ use Rattle.wire.specs.declared.types.MessageClass.{MessageClass}
 use Rattle.attribute.specs.Walk.{walkSaid}
 use Rattle.attribute.specs.declared.Walk.{Walk}
 use Rattle.attribute.specs.declared.Walk.the-variants.{Attribute, End, Cut}
-use Rattle.message.specs.Reading.{answerSaid}
-use Rattle.message.specs.declared.Answer.{Answer}
-use Rattle.message.specs.declared.Answer.the-variants.{Whole, Broken, Refused}
-use Rattle.message.specs.declared.Reading as message
-use Rattle.c_read.specs.Said.{readingOut, said, stepOut}
+use Rattle.read_message.specs.Reading.{answerSaid}
+use Rattle.read_message.specs.declared.Answer.{Answer}
+use Rattle.read_message.specs.declared.Answer.the-variants.{Whole, Broken, Refused}
+use Rattle.read_message.specs.declared.Reading as message
+use Rattle.c_read.specs.Reading.{readingOut, said, stepOut}
 
 module _ {r x : message.Reading} (e : r ≡ x) where
   by-answer : (a : Answer) → r .answer ≡ a → readingOut (answerSaid a []) (r .id .bytes) ≡ said x

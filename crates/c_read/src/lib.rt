@@ -1,11 +1,11 @@
 // What C calls: the reading and the walk, in numbers.
 ghost use mathlib.Core.Path.{_≡_};
-ghost use Rattle.rfc5389.specs.Rows.{rfc5389};
+ghost use Rattle.registry.specs.Rows.{rfc5389};
 ghost use Rattle.attribute.specs.Walk.{walkSaid, walkAt};
-ghost use Rattle.message.specs.Reading.{readingOf};
-ghost use Rattle.c_read.specs.Said.{said, stepOut};
+ghost use Rattle.read_message.specs.Reading.{readingOf};
+ghost use Rattle.c_read.specs.Reading.{said, stepOut};
 use c_wire::Id;
-use message::Answer;
+use read_message::Answer;
 
 // `what` is 0 for whole, 1 for broken and 2 for refused; `number` is 0 where whole.
 #[repr(C)]
@@ -34,7 +34,7 @@ pub struct Step {
 pub extern "C" fn cratehoist_read(datagram: &[u8]) -> Reading
     ensures { λ r. ⌜ r ≡ said (readingOf rfc5389 (now (datagram .entry))) ⌝ }
 {
-    let reading = message::read(datagram);
+    let reading = read_message::read(datagram);
     let answer = reading.answer;
     let bytes = reading.id.bytes;
     match answer {

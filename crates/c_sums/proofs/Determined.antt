@@ -7,10 +7,10 @@ use lib.ListN.{take}
 use Rattle.base.specs.DeterminedLaws.{by}
 use Rattle.base.specs.Determined.{Determines}
 use Rattle.crc.specs.Crc.{crc32Of}
-use Rattle.unicode.specs.Utf8.{isUtf8}
+use Rattle.utf8_spec.specs.Utf8.{isUtf8}
 use Rattle.sha1.specs.Sha1.{sha1}
 use Rattle.hmac.specs.Hmac.{hmacOf}
-use Rattle.numbers.specs.Numbers.{withLength}
+use Rattle.big_endian.specs.Numbers.{withLength}
 use Rattle.c_sums.specs.declared.Digest.{Digest}
 use Rattle.c_sums.proofs.cratehoist_crc32.Kinds as crc32-kinds
 use Rattle.c_sums.proofs.cratehoist_crc32.Reads as crc32-reads

@@ -2,10 +2,10 @@
 ghost use mathlib.Core.Path.{_≡_};
 ghost use lib.ListN.{take};
 ghost use Rattle.crc.specs.Crc.{crc32Of};
-ghost use Rattle.unicode.specs.Utf8.{isUtf8};
+ghost use Rattle.utf8_spec.specs.Utf8.{isUtf8};
 ghost use Rattle.sha1.specs.Sha1.{sha1};
 ghost use Rattle.hmac.specs.Hmac.{hmacOf};
-ghost use Rattle.numbers.specs.Numbers.{withLength};
+ghost use Rattle.big_endian.specs.Numbers.{withLength};
 
 #[repr(C)]
 pub struct Digest {

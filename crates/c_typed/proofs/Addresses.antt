@@ -8,14 +8,14 @@ use Rattle.attribute.specs.Attribute.{Attr}
 use Rattle.net.specs.Net.{familyNumber}
 use Rattle.net.specs.declared.Family.{Family}
 use Rattle.net.specs.declared.Family.the-variants.{Ipv4, Ipv6}
-use Rattle.rfc5389.specs.Rows.{rfc5389, ruleOf}
-use Rattle.begin.specs.declared.Written as begin
-use Rattle.append.specs.Append.{answer, appended}
-use Rattle.append.specs.AppendLaws.{answer-wrong, appended-wrong}
-use Rattle.addresses.specs.Address.{addressRefusal, addressAttr}
-use Rattle.c_wire.specs.Said.{addr}
+use Rattle.registry.specs.Rows.{rfc5389, ruleOf}
+use Rattle.write_begin.specs.declared.Written as begin
+use Rattle.write_raw.specs.Append.{answer, appended}
+use Rattle.write_raw.specs.AppendLaws.{answer-wrong, appended-wrong}
+use Rattle.write_address.specs.Address.{addressRefusal, addressAttr}
+use Rattle.c_wire.specs.XorForm.{addr}
 use Rattle.c_wire.specs.declared.Address as c
-use Rattle.c_write.specs.Said.{told}
+use Rattle.c_write.specs.Written.{told}
 use Rattle.c_write.specs.declared.Written.{Written}
 use Rattle.c_typed.specs.Given.{refusalOf, attrOf}
 

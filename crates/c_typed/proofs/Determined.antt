@@ -5,13 +5,13 @@ use mathlib.Core.Path.{ap₂}
 use Rattle.base.specs.DeterminedLaws.{by}
 use Rattle.base.specs.Determined.{Determines}
 use lib.ListN.{length}
-use Rattle.rfc5389.specs.Rows.{rfc5389}
-use Rattle.typed.specs.Typed.{typedOf, partOf, partAt}
-use Rattle.append.specs.Append.{answer, appended}
-use Rattle.append_typed.specs.Typed.{typed, refusal, textRefusal}
-use Rattle.error_codes.specs.ErrorCode.{codeValue, codeRefusal}
-use Rattle.c_write.specs.Said.{told}
-use Rattle.c_typed.specs.Said.{typedTold}
+use Rattle.registry.specs.Rows.{rfc5389}
+use Rattle.read_typed.specs.Typed.{typedOf, partOf, partAt}
+use Rattle.write_raw.specs.Append.{answer, appended}
+use Rattle.write_typed.specs.Typed.{typed, refusal, textRefusal}
+use Rattle.write_error_code.specs.ErrorCode.{codeValue, codeRefusal}
+use Rattle.c_write.specs.Written.{told}
+use Rattle.c_typed.specs.Typed.{typedTold}
 use Rattle.c_typed.specs.Given.{refusalOf, attrOf}
 use Rattle.c_typed.specs.declared.Typed.{Typed}
 use Rattle.c_wire.specs.declared.Address.{Address}

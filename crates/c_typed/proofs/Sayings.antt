@@ -9,15 +9,15 @@ use Rattle.base.specs.Choice.{pick}
 use Rattle.net.specs.Net.{familyNumber}
 use Rattle.net.specs.declared.Family.{Family}
 use Rattle.wire.specs.declared.transaction_id.TransactionId.{TransactionId}
-use Rattle.rfc5389.specs.Rows.{rfc5389, ruleOf}
-use Rattle.rfc5389.specs.Fault.{fault}
-use Rattle.rfc5389.specs.declared.Rule.{Rule}
-use Rattle.rfc5389.specs.declared.Rule.the-variants as rule
-use Rattle.typed.specs.Typed.{valueSaid, without, saidBy, readOf, typedOf, startBy, partAt, partOf}
-use Rattle.typed.specs.declared.Value.{Value}
-use Rattle.typed.specs.declared.Value.the-variants.{Address, Code, Plain, Refused}
-use Rattle.typed.specs.declared.Typed as typed
-use Rattle.c_typed.specs.Said.{typedOut, typedTold}
+use Rattle.registry.specs.Rows.{rfc5389, ruleOf}
+use Rattle.registry.specs.Fault.{fault}
+use Rattle.registry.specs.declared.Rule.{Rule}
+use Rattle.registry.specs.declared.Rule.the-variants as rule
+use Rattle.read_typed.specs.Typed.{valueSaid, without, saidBy, readOf, typedOf, startBy, partAt, partOf}
+use Rattle.read_typed.specs.declared.Value.{Value}
+use Rattle.read_typed.specs.declared.Value.the-variants.{Address, Code, Plain, Refused}
+use Rattle.read_typed.specs.declared.Typed as typed
+use Rattle.c_typed.specs.Typed.{typedOut, typedTold}
 
 -- only an error code's part starts behind the value's front
 abbrev startIn : Value → ℕ

@@ -5,10 +5,10 @@ use mathlib.Core.Bool.{_||_}
 use lib.Dec.{eqb}
 use Rattle.base.specs.Choice.{pick}
 use Rattle.attribute.specs.Attribute.{Attr}
-use Rattle.rfc5389.specs.Rows.{rfc5389, ruleOf}
-use Rattle.typed.specs.Typed.{familyNumbered}
-use Rattle.addresses.specs.Address.{addressRefusal, addressAttr}
-use Rattle.c_wire.specs.Said.{addr}
+use Rattle.registry.specs.Rows.{rfc5389, ruleOf}
+use Rattle.read_typed.specs.Typed.{familyNumbered}
+use Rattle.write_address.specs.Address.{addressRefusal, addressAttr}
+use Rattle.c_wire.specs.XorForm.{addr}
 use Rattle.c_wire.specs.declared.Address as c
 
 -- 23: the number is no family's, or the type no address's; 0: neither

@@ -2,24 +2,24 @@
 // `c_read` and `c_value` the reader is the only caller of the rules, and the compiler puts them into its loop.
 ghost use mathlib.Core.Path.{_≡_};
 ghost use lib.ListN.{length};
-ghost use Rattle.rfc5389.specs.Rows.{rfc5389};
-ghost use Rattle.typed.specs.Typed.{typedOf, partOf, partAt};
-ghost use Rattle.append.specs.Append.{answer, appended};
-ghost use Rattle.append_typed.specs.Typed.{typed, refusal, textRefusal};
-ghost use Rattle.error_codes.specs.ErrorCode.{codeValue, codeRefusal};
-ghost use Rattle.c_write.specs.Said.{told};
-ghost use Rattle.c_typed.specs.Said.{typedTold};
+ghost use Rattle.registry.specs.Rows.{rfc5389};
+ghost use Rattle.read_typed.specs.Typed.{typedOf, partOf, partAt};
+ghost use Rattle.write_raw.specs.Append.{answer, appended};
+ghost use Rattle.write_typed.specs.Typed.{typed, refusal, textRefusal};
+ghost use Rattle.write_error_code.specs.ErrorCode.{codeValue, codeRefusal};
+ghost use Rattle.c_write.specs.Written.{told};
+ghost use Rattle.c_typed.specs.Typed.{typedTold};
 ghost use Rattle.c_typed.specs.Given.{refusalOf, attrOf};
-use addresses::append_address;
-use append_typed::append_value;
 use c_wire::Address;
 use c_wire::Id;
 use c_write::Written;
 use c_write::in_numbers;
 use net::Family;
 use net::SocketAddr;
-use typed::Value;
+use read_typed::Value;
 use wire::transaction_id::TransactionId;
+use write_address::append_address;
+use write_typed::append_value;
 
 // What a value says, where `number` is 0; the part is one of the value.
 #[repr(C)]
@@ -38,8 +38,8 @@ pub extern "C" fn cratehoist_typed_value(kind: u16, value: &[u8], id: Id) -> Typ
     ensures { λ r. ⌜ r ≡ typedTold (typedOf rfc5389 kind (now (value .entry)) (record { bytes = id .bytes })) (partAt rfc5389 kind (now (value .entry))) (length (partOf rfc5389 kind (now (value .entry)))) ⌝ }
 {
     let bytes = id.bytes;
-    let t = typed::value_of(kind, value, TransactionId { bytes: bytes });
-    let part = typed::part_of(kind, value);
+    let t = read_typed::value_of(kind, value, TransactionId { bytes: bytes });
+    let part = read_typed::part_of(kind, value);
     let size = part.len();
     let ip = t.ip;
     let v = t.value;
@@ -87,7 +87,7 @@ pub extern "C" fn cratehoist_typed_value(kind: u16, value: &[u8], id: Id) -> Typ
 pub extern "C" fn cratehoist_refusal(kind: u16, value: &[u8]) -> u8
     ensures { λ r. ⌜ r ≡ refusal rfc5389 kind (now (value .entry)) ⌝ }
 {
-    append_typed::refusal_of(kind, value)
+    write_typed::refusal_of(kind, value)
 }
 
 #[no_mangle]
@@ -95,7 +95,7 @@ pub extern "C" fn cratehoist_append_text(buffer: &mut [u8], kind: u16, text: &[u
     ensures { λ r. ⌜ (r ≡ told (answer (now (buffer .entry)) (textRefusal rfc5389 kind (now (text .entry))) (typed kind (now (text .entry)))))
         × (now (buffer .exit) ≡ appended (now (buffer .entry)) (textRefusal rfc5389 kind (now (text .entry))) (typed kind (now (text .entry)))) ⌝ }
 {
-    in_numbers(append_typed::append_text(buffer, kind, text))
+    in_numbers(write_typed::append_text(buffer, kind, text))
 }
 
 #[no_mangle]
@@ -103,7 +103,7 @@ pub extern "C" fn cratehoist_append_unknown_attributes(buffer: &mut [u8], types:
     ensures { λ r. ⌜ (r ≡ told (answer (now (buffer .entry)) (refusal rfc5389 0x000A (now (types .entry))) (typed 0x000A (now (types .entry)))))
         × (now (buffer .exit) ≡ appended (now (buffer .entry)) (refusal rfc5389 0x000A (now (types .entry))) (typed 0x000A (now (types .entry)))) ⌝ }
 {
-    in_numbers(append_typed::append_unknown_attributes(buffer, types))
+    in_numbers(write_typed::append_unknown_attributes(buffer, types))
 }
 
 #[no_mangle]
@@ -152,5 +152,5 @@ pub extern "C" fn cratehoist_append_error_code(
     ensures { λ r. ⌜ (r ≡ told (answer (now (buffer .entry)) (codeRefusal rfc5389 code (now (phrase .entry))) (typed 0x0009 (codeValue code (now (phrase .entry))))))
         × (now (buffer .exit) ≡ appended (now (buffer .entry)) (codeRefusal rfc5389 code (now (phrase .entry))) (typed 0x0009 (codeValue code (now (phrase .entry))))) ⌝ }
 {
-    in_numbers(error_codes::append_error_code(buffer, code, phrase))
+    in_numbers(write_error_code::append_error_code(buffer, code, phrase))
 }

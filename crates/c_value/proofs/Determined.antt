@@ -3,10 +3,10 @@ use Prim.Native.Nat.{ℕ}
 use mathlib.Core.List.{List}
 use Rattle.base.specs.DeterminedLaws.{by}
 use Rattle.base.specs.Determined.{Determines}
-use Rattle.rfc5389.specs.Rows.{rfc5389}
-use Rattle.value.specs.First.{firstSaid, firstIn, first, placed}
-use Rattle.integrity.specs.Integrity.{integrityFault}
-use Rattle.c_value.specs.Said.{firstOut, valueIn, realmIn}
+use Rattle.registry.specs.Rows.{rfc5389}
+use Rattle.read_first.specs.First.{firstSaid, firstIn, first, placed}
+use Rattle.read_integrity.specs.Integrity.{integrityFault}
+use Rattle.c_value.specs.Part.{firstOut, valueIn, realmIn}
 use Rattle.c_value.specs.declared.First.{First}
 use Rattle.c_value.specs.declared.Part.{Part}
 use Rattle.c_value.proofs.cratehoist_search.Kinds as search-kinds

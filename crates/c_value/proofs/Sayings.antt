@@ -5,13 +5,13 @@ use mathlib.Core.Bool.{true, false}
 use mathlib.Core.Path.{_≡_, sym, ap, _∙_}
 use native.Mathlib.Omega.{arith}
 use lib.ListN.{length, take, drop, length-take, length-drop}
-use Rattle.rfc5389.specs.Rows.{rfc5389}
-use Rattle.value.specs.First.{firstSaid, first, placed, isThere, valueOf, valueAt}
-use Rattle.value.specs.FirstLaws as laws
-use Rattle.value.specs.declared.First as value
-use Rattle.value.specs.declared.First.the-variants.{Found, Absent}
-use Rattle.realm.specs.Realm.{realmOf}
-use Rattle.c_value.specs.Said.{firstOut, valueIn, realmIn}
+use Rattle.registry.specs.Rows.{rfc5389}
+use Rattle.read_first.specs.First.{firstSaid, first, placed, isThere, valueOf, valueAt}
+use Rattle.read_first.specs.FirstLaws as laws
+use Rattle.read_first.specs.declared.First as value
+use Rattle.read_first.specs.declared.First.the-variants.{Found, Absent}
+use Rattle.read_realm.specs.Realm.{realmOf}
+use Rattle.c_value.specs.Part.{firstOut, valueIn, realmIn}
 
 module _ (f : value.First) where
   pub one : {p n : ℕ} → f ≡ Found p n → record { there = true; place = p; size = n } ≡ firstOut (firstSaid f)

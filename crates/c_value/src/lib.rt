@@ -1,10 +1,10 @@
 // What C calls: the first attribute of a type, the realm to use, and the check of MESSAGE-INTEGRITY.
 // A part is told by where it starts in the lent bytes, and its size.
 ghost use mathlib.Core.Path.{_≡_};
-ghost use Rattle.rfc5389.specs.Rows.{rfc5389};
-ghost use Rattle.value.specs.First.{firstSaid, firstIn, first, placed};
-ghost use Rattle.integrity.specs.Integrity.{integrityFault};
-ghost use Rattle.c_value.specs.Said.{firstOut, valueIn, realmIn};
+ghost use Rattle.registry.specs.Rows.{rfc5389};
+ghost use Rattle.read_first.specs.First.{firstSaid, firstIn, first, placed};
+ghost use Rattle.read_integrity.specs.Integrity.{integrityFault};
+ghost use Rattle.c_value.specs.Part.{firstOut, valueIn, realmIn};
 // Where the first attribute of a type starts, and the size of its value.
 #[repr(C)]
 pub struct First {
@@ -20,16 +20,16 @@ pub struct Part {
     pub size: usize,
 }
 
-fn first_said(f: value::First) -> First
+fn first_said(f: read_first::First) -> First
     ensures { λ r. ⌜ r ≡ firstOut (firstSaid f) ⌝ }
 {
     match f {
-        value::First::Found { at, size } => First {
+        read_first::First::Found { at, size } => First {
             there: true,
             place: at,
             size,
         },
-        value::First::Absent => First {
+        read_first::First::Absent => First {
             there: false,
             place: 0,
             size: 0,
@@ -41,16 +41,16 @@ fn first_said(f: value::First) -> First
 pub extern "C" fn cratehoist_search(bytes: &[u8], kind: u16) -> First
     ensures { λ r. ⌜ r ≡ firstOut (firstSaid (placed (firstIn kind (now (bytes .entry))))) ⌝ }
 {
-    first_said(value::search(bytes, kind))
+    first_said(read_first::search(bytes, kind))
 }
 
 #[no_mangle]
 pub extern "C" fn cratehoist_first_value(datagram: &[u8], kind: u16) -> Part
     ensures { λ r. ⌜ r ≡ valueIn (first rfc5389 kind (now (datagram .entry))) ⌝ }
 {
-    let f = value::find(datagram, kind);
+    let f = read_first::find(datagram, kind);
     match f {
-        value::First::Found { at, size } => {
+        read_first::First::Found { at, size } => {
             let start = at + 4;
             Part {
                 there: true,
@@ -58,7 +58,7 @@ pub extern "C" fn cratehoist_first_value(datagram: &[u8], kind: u16) -> Part
                 size,
             }
         }
-        value::First::Absent => Part {
+        read_first::First::Absent => Part {
             there: false,
             start: 0,
             size: 0,
@@ -71,9 +71,9 @@ pub extern "C" fn cratehoist_first_value(datagram: &[u8], kind: u16) -> Part
 pub extern "C" fn cratehoist_realm(datagram: &[u8], configured: &[u8]) -> Part
     ensures { λ r. ⌜ r ≡ realmIn (now (datagram .entry)) (now (configured .entry)) ⌝ }
 {
-    let f = value::find(datagram, realm::REALM);
+    let f = read_first::find(datagram, read_realm::REALM);
     match f {
-        value::First::Found { at, size } => {
+        read_first::First::Found { at, size } => {
             let own = at + 4;
             Part {
                 there: true,
@@ -81,7 +81,7 @@ pub extern "C" fn cratehoist_realm(datagram: &[u8], configured: &[u8]) -> Part
                 size,
             }
         }
-        value::First::Absent => Part {
+        read_first::First::Absent => Part {
             there: false,
             start: 0,
             size: configured.len(),
@@ -93,5 +93,5 @@ pub extern "C" fn cratehoist_realm(datagram: &[u8], configured: &[u8]) -> Part
 pub extern "C" fn cratehoist_check_integrity(datagram: &[u8], key: &[u8]) -> u8
     ensures { λ r. ⌜ r ≡ integrityFault rfc5389 (now (datagram .entry)) (now (key .entry)) ⌝ }
 {
-    integrity::check_integrity(datagram, key)
+    read_integrity::check_integrity(datagram, key)
 }

@@ -1,6 +1,6 @@
 // What C calls: the XOR form of an address; and the structs that the other crates for C share. A family is a number there.
 ghost use mathlib.Core.Path.{_≡_};
-ghost use Rattle.c_wire.specs.Said.{formed, formOf};
+ghost use Rattle.c_wire.specs.XorForm.{formed, formOf};
 use net::Family;
 use net::SocketAddr;
 use wire::transaction_id::TransactionId;
@@ -21,13 +21,13 @@ pub struct Address {
 
 // An address in the other form, where `number` is 0.
 #[repr(C)]
-pub struct Formed {
+pub struct XorForm {
     pub number: u8,
     pub address: Address,
 }
 
 // The XOR form of an address of a family that there is.
-fn form_of(family: Family, address: Address, id: Id) -> Formed
+fn form_of(family: Family, address: Address, id: Id) -> XorForm
     ensures { λ r. ⌜ r ≡ formed family address id ⌝ }
 {
     let ip = address.ip;
@@ -39,7 +39,7 @@ fn form_of(family: Family, address: Address, id: Id) -> Formed
     };
     let other = net::socket_addr_xor(plain, TransactionId { bytes: bytes });
     let out = other.ip;
-    Formed {
+    XorForm {
         number: 0,
         address: Address {
             family: address.family,
@@ -51,7 +51,7 @@ fn form_of(family: Family, address: Address, id: Id) -> Formed
 
 // A family that is none is refused by 12.
 #[no_mangle]
-pub extern "C" fn cratehoist_address_xor(address: Address, id: Id) -> Formed
+pub extern "C" fn cratehoist_address_xor(address: Address, id: Id) -> XorForm
     ensures { λ r. ⌜ r ≡ formOf address id ⌝ }
 {
     if address.family == 1 {
@@ -60,7 +60,7 @@ pub extern "C" fn cratehoist_address_xor(address: Address, id: Id) -> Formed
     if address.family == 2 {
         return form_of(Family::Ipv6, address, id);
     }
-    Formed {
+    XorForm {
         number: 12,
         address: Address {
             family: 0,

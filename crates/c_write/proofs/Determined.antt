@@ -4,10 +4,10 @@ use mathlib.Core.List.{List}
 use mathlib.Core.Path.{ap₂}
 use Rattle.base.specs.DeterminedLaws.{by}
 use Rattle.base.specs.Determined.{Determines}
-use Rattle.append.specs.Append.{attr, answer, appended}
-use Rattle.seal.specs.Seal.{fingerprint, integrity}
-use Rattle.c_write.specs.Said.{told, begunBy, leftBy}
-use Rattle.begin.specs.declared.Written as begin
+use Rattle.write_raw.specs.Append.{attr, answer, appended}
+use Rattle.write_close.specs.Seal.{fingerprint, integrity}
+use Rattle.c_write.specs.Written.{told, begunBy, leftBy}
+use Rattle.write_begin.specs.declared.Written as begin
 use Rattle.c_wire.specs.declared.Id.{Id}
 use Rattle.c_write.specs.declared.Written.{Written}
 use Rattle.c_write.proofs.in_numbers.Kinds as in-numbers-kinds

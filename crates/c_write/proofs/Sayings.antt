@@ -6,11 +6,11 @@ use borrow.Author.Tests.{lt-ltb, le-ltb}
 use Rattle.wire.specs.TypeNumber.{classNumber, atMostThree}
 use Rattle.wire.specs.TypeLaws.{class-is}
 use Rattle.wire.specs.declared.types.MessageClass.{MessageClass}
-use Rattle.begin.specs.Begin.{writtenSaid, begun, beginning}
-use Rattle.begin.specs.declared.Written as begin
-use Rattle.begin.specs.declared.Written.the-variants.{Total, Refused}
+use Rattle.write_begin.specs.Begin.{writtenSaid, begun, beginning}
+use Rattle.write_begin.specs.declared.Written as begin
+use Rattle.write_begin.specs.declared.Written.the-variants.{Total, Refused}
 use Rattle.c_wire.specs.declared.Id.{Id}
-use Rattle.c_write.specs.Said.{writtenOut, told, begunBy, leftBy}
+use Rattle.c_write.specs.Written.{writtenOut, told, begunBy, leftBy}
 use Rattle.c_write.specs.declared.Written.{Written}
 
 module _ (w : begin.Written) where

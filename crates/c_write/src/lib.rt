@@ -1,8 +1,8 @@
 // What C calls: a message begun, raw attributes appended, and the message sealed.
 ghost use mathlib.Core.Path.{_≡_};
-ghost use Rattle.append.specs.Append.{attr, answer, appended};
-ghost use Rattle.seal.specs.Seal.{fingerprint, integrity};
-ghost use Rattle.c_write.specs.Said.{told, begunBy, leftBy};
+ghost use Rattle.write_raw.specs.Append.{attr, answer, appended};
+ghost use Rattle.write_close.specs.Seal.{fingerprint, integrity};
+ghost use Rattle.c_write.specs.Written.{told, begunBy, leftBy};
 use c_wire::Id;
 use wire::method::Method;
 use wire::transaction_id::TransactionId;
@@ -16,12 +16,12 @@ pub struct Written {
 }
 
 // An answer of the writer in numbers.
-pub fn in_numbers(w: begin::Written) -> Written
+pub fn in_numbers(w: write_begin::Written) -> Written
     ensures { λ r. ⌜ r ≡ told w ⌝ }
 {
     match w {
-        begin::Written::Total { size } => Written { number: 0, size },
-        begin::Written::Refused { number } => Written { number, size: 0 },
+        write_begin::Written::Total { size } => Written { number: 0, size },
+        write_begin::Written::Refused { number } => Written { number, size: 0 },
     }
 }
 
@@ -43,7 +43,7 @@ pub extern "C" fn cratehoist_begin(
     }
     let class = class_numbered(message_class);
     let bytes = id.bytes;
-    in_numbers(begin::begin(
+    in_numbers(write_begin::begin(
         buffer,
         class,
         Method { code: method },
@@ -61,7 +61,7 @@ pub extern "C" fn cratehoist_append_raw(
     ensures { λ r. ⌜ (r ≡ told (answer (now (buffer .entry)) 0 (attr kind (now (value .entry)) (now (padding .entry)))))
         × (now (buffer .exit) ≡ appended (now (buffer .entry)) 0 (attr kind (now (value .entry)) (now (padding .entry)))) ⌝ }
 {
-    in_numbers(append::append_raw(buffer, kind, value, padding))
+    in_numbers(write_raw::append_raw(buffer, kind, value, padding))
 }
 
 #[no_mangle]
@@ -69,7 +69,7 @@ pub extern "C" fn cratehoist_append_fingerprint(buffer: &mut [u8]) -> Written
     ensures { λ r. ⌜ (r ≡ told (answer (now (buffer .entry)) 0 (fingerprint (now (buffer .entry)))))
         × (now (buffer .exit) ≡ appended (now (buffer .entry)) 0 (fingerprint (now (buffer .entry)))) ⌝ }
 {
-    in_numbers(seal::append_fingerprint(buffer))
+    in_numbers(write_close::append_fingerprint(buffer))
 }
 
 #[no_mangle]
@@ -77,5 +77,5 @@ pub extern "C" fn cratehoist_append_message_integrity(buffer: &mut [u8], key: &[
     ensures { λ r. ⌜ (r ≡ told (answer (now (buffer .entry)) 0 (integrity (now (key .entry)) (now (buffer .entry)))))
         × (now (buffer .exit) ≡ appended (now (buffer .entry)) 0 (integrity (now (key .entry)) (now (buffer .entry)))) ⌝ }
 {
-    in_numbers(seal::append_message_integrity(buffer, key))
+    in_numbers(write_close::append_message_integrity(buffer, key))
 }

@@ -48,9 +48,9 @@ pub fn update(c: u32, s: &[u8]) -> u32
     // A constant array is written to the stack at each use, so a short slice gets a small table.
     if s.len() < 8 {
         let t = TWO_ROWS;
-        nibbles::bytes(&t, c, s)
+        crc_nibbles::bytes(&t, c, s)
     } else {
-        folds::by_words(c, s)
+        crc_folds::by_words(c, s)
     }
 }
 

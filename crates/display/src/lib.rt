@@ -4,7 +4,7 @@ ghost use Prim.Native.Nat.{_<_};
 ghost use lib.ListN.{length, drop};
 ghost use Rattle.display.specs.Blame.{within, inAttribute, blamed};
 ghost use Rattle.display.specs.Zeros.{leading, betterOf, longest};
-use numbers::u16_at;
+use big_endian::u16_at;
 
 pub mod escape;
 

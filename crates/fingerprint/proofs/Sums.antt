@@ -7,8 +7,8 @@ use borrow.Author.Tests.{lt-ltb, le-ltb}
 use lib.ListN.{length, getD, take, drop}
 use lib.Seq.{take-add}
 use lib.Bits.{bitXor}
-use Rattle.numbers.specs.Numbers.{be16, two, withLength}
-use Rattle.numbers.specs.NumbersLaws.{four-at}
+use Rattle.big_endian.specs.Numbers.{be16, two, withLength}
+use Rattle.big_endian.specs.NumbersLaws.{four-at}
 use Rattle.crc.specs.Crc.{bytesFrom, finished, crc32Of}
 use Rattle.crc.specs.CrcLaws.{bytesFrom-append}
 use Rattle.fingerprint.specs.Fingerprint.{fingerprintAt, printed}

@@ -5,7 +5,7 @@ use lib.ListN.{length, take}
 use lib.Bits.{bitXor}
 use lib.Dec.{ltb}
 use Rattle.base.specs.Choice.{pick}
-use Rattle.numbers.specs.Numbers.{withLength}
+use Rattle.big_endian.specs.Numbers.{withLength}
 use Rattle.crc.specs.Crc.{crc32Of}
 
 -- the sum over the bytes before p, with p - 20 + 8 in the length field

@@ -2,7 +2,7 @@
 use Prim.Native.Nat.{ℕ, _+_, _*_, _/_, _%_, _^_}
 use mathlib.Core.List.{List}
 use lib.ListN.{take}
-use Rattle.numbers.specs.Numbers.{withLength}
+use Rattle.big_endian.specs.Numbers.{withLength}
 use Rattle.crc.specs.Crc.{bytesFrom}
 
 -- over the bytes before p, with n in the length field

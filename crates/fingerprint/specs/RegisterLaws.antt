@@ -9,7 +9,7 @@ use lib.Bits.{bitXor, xor-zero-l, xor-lt}
 use Rattle.base.specs.LaidLaws.{laid-is}
 use Rattle.base.specs.Laid.{laid}
 use Rattle.base.specs.ListLaws.{drop-take}
-use Rattle.numbers.specs.Numbers.{two, withLength}
+use Rattle.big_endian.specs.Numbers.{two, withLength}
 use Rattle.crc.specs.Crc.{bytesFrom, finished, crc32Of}
 use Rattle.crc.specs.Octets.{octets, word, times}
 use Rattle.crc.specs.CrcLaws.{bitSteps-shift, octets-add, octets-xor, bytesFrom-append, at-once, patched, low-byte}

@@ -11,8 +11,8 @@ use lib.Bits.{bitXor}
 use Rattle.base.specs.BytesLaws.{take-bytes, drop-bytes}
 use Rattle.base.specs.Bytes.{Bytes}
 use Rattle.base.specs.XorLaws.{xor-cancel}
-use Rattle.numbers.specs.Numbers.{be16, four, withLength}
-use Rattle.numbers.specs.NumbersLaws.{four-once}
+use Rattle.big_endian.specs.Numbers.{be16, four, withLength}
+use Rattle.big_endian.specs.NumbersLaws.{four-once}
 use Rattle.crc.specs.Crc.{crc32Of}
 use Rattle.crc.specs.BurstLaws.{burst-at}
 use Rattle.fingerprint.specs.Fingerprint.{fingerprintAt}

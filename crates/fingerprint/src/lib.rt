@@ -3,7 +3,7 @@ ghost use mathlib.Core.Path.{_≡_};
 ghost use Prim.Native.Nat.{_+_, _-_, _≤_};
 ghost use lib.ListN.{length};
 ghost use Rattle.fingerprint.specs.Fingerprint.{fingerprintAt, printed};
-use numbers::u16_at;
+use big_endian::u16_at;
 
 pub const FINGERPRINT: u16 = 0x8028;
 

@@ -8,8 +8,8 @@ use borrow.Author.Tests.{lt-ltb, le-ltb, ltb-true, ltb-false, le-leb, lt-leb, eq
 use lib.ListN.{length}
 use lib.Dec.{ltb, eqb}
 use Rattle.base.specs.Choice.{pick}
-use Rattle.numbers.specs.Numbers.{be16}
-use Rattle.constants.specs.Cookie.{cookieAt}
+use Rattle.big_endian.specs.Numbers.{be16}
+use Rattle.cookie.specs.Cookie.{cookieAt}
 use Rattle.wire.specs.TypeNumber.{classOf, methodOf, classNumbered, typeFrom}
 use Rattle.header.specs.Header.{frontFault, headerFault, idOf, refusedBy, told, answer, frontOf, headerOf}
 use Rattle.wire.specs.declared.types.MessageClass.{MessageClass}

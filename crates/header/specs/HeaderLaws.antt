@@ -10,8 +10,8 @@ use lib.Seq.{getD-take, take-take}
 use lib.Dec.{eqb, ltb, leb}
 use Rattle.base.specs.Choice.{pick}
 use Rattle.base.specs.ListLaws.{drop-take}
-use Rattle.numbers.specs.Numbers.{be16}
-use Rattle.constants.specs.Cookie.{cookieAt}
+use Rattle.big_endian.specs.Numbers.{be16}
+use Rattle.cookie.specs.Cookie.{cookieAt}
 use Rattle.wire.specs.TypeNumber.{classOf, methodOf, classNumbered}
 use Rattle.wire.specs.declared.method.Method.{Method}
 use Rattle.wire.specs.declared.types.MessageClass.{MessageClass}

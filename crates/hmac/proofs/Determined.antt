@@ -4,7 +4,7 @@ use mathlib.Core.List.{List}
 use lib.ListN.{take}
 use Rattle.base.specs.DeterminedLaws.{by}
 use Rattle.base.specs.Determined.{Determines}
-use Rattle.numbers.specs.Numbers.{withLength}
+use Rattle.big_endian.specs.Numbers.{withLength}
 use Rattle.hmac.specs.Hmac.{hmacOf}
 use Rattle.hmac.proofs.hmac.Kinds as hmac
 use Rattle.hmac.proofs.hmac.Reads as hmac-reads

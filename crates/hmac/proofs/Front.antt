@@ -8,13 +8,13 @@ use lib.Seq.{take-at, take-all, drop-set-lt}
 use Rattle.sha1.specs.declared.compression.State.{State}
 use Rattle.sha1.specs.Compression.{start, compress, run}
 use Rattle.sha1.specs.CompressionLaws.{run-one}
-use Rattle.blocks.specs.Block.{blockOf}
-use Rattle.blocks.specs.BlockLaws.{block-short, block-long, length-block}
+use Rattle.hash_block.specs.Block.{blockOf}
+use Rattle.hash_block.specs.BlockLaws.{block-short, block-long, length-block}
 use Rattle.sha1.specs.Finished.{finished}
 use Rattle.sha1.specs.FinishedLaws.{finished-block}
 use Rattle.sha1.specs.Sha1.{sha1}
-use Rattle.numbers.specs.Numbers.{withLength}
-use Rattle.numbers.specs.NumbersLaws.{length-withLength}
+use Rattle.big_endian.specs.Numbers.{withLength}
+use Rattle.big_endian.specs.NumbersLaws.{length-withLength}
 use Rattle.hmac.specs.Hmac.{keyBlock, xored, hmacOf}
 use Rattle.hmac.proofs.Keys.{both}
 

@@ -12,8 +12,8 @@ use lib.Bits.{bitXor}
 use Rattle.sha1.specs.declared.compression.State.{State}
 use Rattle.sha1.specs.Compression.{start, compress, run}
 use Rattle.sha1.specs.CompressionLaws.{run-one}
-use Rattle.blocks.specs.Block.{blockOf}
-use Rattle.blocks.specs.BlockLaws.{length-block}
+use Rattle.hash_block.specs.Block.{blockOf}
+use Rattle.hash_block.specs.BlockLaws.{length-block}
 use Rattle.sha1.specs.Finished.{finished}
 use Rattle.sha1.specs.FinishedLaws.{finished-block}
 use Rattle.sha1.specs.Sha1.{sha1}

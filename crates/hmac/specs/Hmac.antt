@@ -5,7 +5,7 @@ use lib.ListN.{length}
 use lib.Dec.{leb}
 use lib.Bits.{bitXor}
 use Rattle.base.specs.Choice.{pick}
-use Rattle.blocks.specs.Block.{blockOf}
+use Rattle.hash_block.specs.Block.{blockOf}
 use Rattle.sha1.specs.Sha1.{sha1}
 
 -- the key as one block: its hash where it is longer than that, with zeros behind it

@@ -4,10 +4,10 @@ ghost use mathlib.Core.List.{_++_};
 ghost use Prim.Native.Nat.{_+_};
 ghost use lib.ListN.{length, take};
 ghost use Rattle.sha1.specs.Compression.{start, compress};
-ghost use Rattle.blocks.specs.Block.{blockOf};
+ghost use Rattle.hash_block.specs.Block.{blockOf};
 ghost use Rattle.sha1.specs.Finished.{finished};
 ghost use Rattle.sha1.specs.Sha1.{sha1};
-ghost use Rattle.numbers.specs.Numbers.{withLength};
+ghost use Rattle.big_endian.specs.Numbers.{withLength};
 ghost use Rattle.hmac.specs.Hmac as spec;
 use sha1::compression::State;
 
@@ -18,10 +18,10 @@ fn key_block(k: &[u8]) -> [u8; 64]
     ensures { λ r. ⌜ r ≡ spec.keyBlock (now (k .entry)) ⌝ }
 {
     if k.len() <= 64 {
-        blocks::block(k)
+        hash_block::block(k)
     } else {
         let d = sha1::hash(k);
-        blocks::block(&d)
+        hash_block::block(&d)
     }
 }
 
@@ -48,7 +48,7 @@ fn keyed(k: [u8; 64], x: u8) -> State
 fn outer(k: [u8; 64], m: [u8; 20]) -> [u8; 20]
     ensures { λ r. ⌜ r ≡ sha1 (spec.xored k 0x5c ++ m) ⌝ }
 {
-    sha1::endings::finish(keyed(k, 0x5c), 1, &m)
+    sha1::padding::finish(keyed(k, 0x5c), 1, &m)
 }
 
 // HMAC-SHA-1 of the message m under the key k.
@@ -56,14 +56,14 @@ pub fn hmac(k: &[u8], m: &[u8]) -> [u8; 20]
     ensures { λ r. ⌜ r ≡ spec.hmacOf (now (k .entry)) (now (m .entry)) ⌝ }
 {
     let b = key_block(k);
-    outer(b, sha1::endings::finish(keyed(b, 0x36), 1, m))
+    outer(b, sha1::padding::finish(keyed(b, 0x36), 1, m))
 }
 
 // The first block of m, with n in the length field.
 fn relabelled(m: &[u8], n: u16) -> [u8; 64]
     ensures { λ r. ⌜ r ≡ withLength (blockOf (now (m .entry))) n ⌝ }
 {
-    let mut b = blocks::block(m);
+    let mut b = hash_block::block(m);
     b[2] = (n / 256) as u8;
     b[3] = (n % 256) as u8;
     b
@@ -76,9 +76,9 @@ fn inner(h: State, m: &[u8], n: u16) -> [u8; 20]
     let b = relabelled(m, n);
     let p = m.len();
     if p < 64 {
-        sha1::endings::finish(h, 1, &b[0..p])
+        sha1::padding::finish(h, 1, &b[0..p])
     } else {
-        sha1::endings::finish(sha1::compression::absorb(h, &b), 2, &m[64..])
+        sha1::padding::finish(sha1::compression::absorb(h, &b), 2, &m[64..])
     }
 }
 

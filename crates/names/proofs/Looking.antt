@@ -8,7 +8,7 @@ use lib.ListN.{length, getD, take, drop, replicate, length-take, length-drop}
 use lib.Seq.{drop-cons, drop-drop}
 use lib.Dec.{ltb, eqb}
 use Rattle.base.specs.Choice.{pick}
-use Rattle.numbers.specs.Numbers.{be16}
+use Rattle.big_endian.specs.Numbers.{be16}
 use Rattle.buffers.specs.Put.{put}
 use Rattle.names.specs.Names.{Row, find, shown}
 use Rattle.names.specs.TableLaws.{laidOut, nameFrom, skip, found}

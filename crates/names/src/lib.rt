@@ -4,7 +4,7 @@ ghost use lib.ListN.{length, take, drop};
 ghost use mathlib.Core.Path.{_≡_};
 ghost use Rattle.names.specs.Names.{shown, attributeName, codeName, numberName, className, methodName};
 ghost use Rattle.names.specs.TableLaws.{nameFrom};
-use numbers::u16_at;
+use big_endian::u16_at;
 use wire::method::Method;
 use wire::types::MessageClass;
 

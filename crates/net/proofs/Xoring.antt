@@ -8,7 +8,7 @@ use lib.ListN.{length, getD, set, take, drop, length-drop, drop-of-length-le}
 use lib.Seq.{take-all}
 use lib.Bits.{bitXor}
 use borrow.Rule.Slice.PartMut.{midOf, postOf, putMid}
-use Rattle.constants.specs.Cookie.{cookie}
+use Rattle.cookie.specs.Cookie.{cookie}
 use Rattle.wire.specs.declared.transaction_id.TransactionId.{TransactionId}
 use Rattle.net.specs.Net.{ipSize, xored, addrXor}
 use Rattle.net.specs.NetLaws.{length-xored, xored-nil, xored-behind, xored-append}

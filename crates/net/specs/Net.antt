@@ -4,8 +4,8 @@ use mathlib.Core.List.{List, [], _∷_, _++_}
 use mathlib.Core.Path.{_≡_}
 use lib.ListN.{length, take, drop, replicate}
 use lib.Bits.{bitXor}
-use Rattle.numbers.specs.Numbers.{two}
-use Rattle.constants.specs.Cookie.{cookie}
+use Rattle.big_endian.specs.Numbers.{two}
+use Rattle.cookie.specs.Cookie.{cookie}
 use Rattle.net.specs.declared.Family.{Family}
 use Rattle.net.specs.declared.Family.the-variants.{Ipv4, Ipv6}
 use Rattle.net.specs.declared.SocketAddr.{SocketAddr}

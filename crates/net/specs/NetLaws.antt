@@ -6,7 +6,7 @@ use native.Mathlib.Omega.{arith}
 use lib.ListN.{length, take, drop}
 use lib.Bits.{bitXor}
 use Rattle.base.specs.XorLaws.{xor-twice}
-use Rattle.constants.specs.Cookie.{cookie}
+use Rattle.cookie.specs.Cookie.{cookie}
 use Rattle.net.specs.Net.{ipSize, xored, addrXor}
 use Rattle.net.specs.declared.SocketAddr.{SocketAddr}
 use Rattle.wire.specs.declared.transaction_id.TransactionId.{TransactionId}

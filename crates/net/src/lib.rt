@@ -2,7 +2,7 @@
 ghost use mathlib.Core.Path.{_≡_};
 ghost use mathlib.Core.List.{_++_};
 ghost use lib.ListN.{take};
-ghost use Rattle.constants.specs.Cookie.{cookie};
+ghost use Rattle.cookie.specs.Cookie.{cookie};
 ghost use Rattle.net.specs.Net.{familyNumber, ipSize, xored, addrXor};
 use wire::transaction_id::TransactionId;
 
@@ -57,7 +57,7 @@ fn xor_ip(family: Family, ip: [u8; 16], id: [u8; 12]) -> [u8; 16]
     ensures { λ r. ⌜ r ≡ xored ip (take (ipSize family) (cookie ++ id)) ⌝ }
 {
     let mut out = ip;
-    xor_bytes(&mut out, &constants::MAGIC_COOKIE);
+    xor_bytes(&mut out, &cookie::MAGIC_COOKIE);
     match family {
         Family::Ipv4 => out,
         Family::Ipv6 => {

@@ -8,7 +8,7 @@ use lib.ListN.{length, take, drop, length-append, length-drop, take-append-drop}
 use lib.Seq.{take-at, length-take-le}
 use Rattle.base.specs.BytesLaws.{take-bytes}
 use Rattle.base.specs.Bytes.{Bytes}
-use Rattle.numbers.specs.Numbers.{be16}
+use Rattle.big_endian.specs.Numbers.{be16}
 use Rattle.wire.specs.TypeNumber.{typeOf, classNumber}
 use Rattle.wire.specs.TypeLaws.{type-below, class-small}
 use Rattle.header.specs.HeaderLaws.{unrefused, take-be16, take-front}
@@ -17,12 +17,12 @@ use Rattle.attribute.specs.Attribute as one
 use Rattle.attribute.specs.Good.{Good}
 use Rattle.attribute.specs.Visits.{Visits, placed}
 use Rattle.attribute.specs.CoverLaws.{placed-one, visits, visits-one}
-use Rattle.begin.specs.declared.Written.the-variants.{Total}
-use Rattle.plan.specs.Plan.{sizeOf}
-use Rattle.plan.specs.PlanLaws.{Going, message}
-use Rattle.plan.specs.PlanLaws as plan
-use Rattle.append.specs.Append.{answer, appended}
-use Rattle.append.specs.AppendLaws.{total-goes}
+use Rattle.write_begin.specs.declared.Written.the-variants.{Total}
+use Rattle.write_plan.specs.Plan.{sizeOf}
+use Rattle.write_plan.specs.PlanLaws.{Going, message}
+use Rattle.write_plan.specs.PlanLaws as plan
+use Rattle.write_raw.specs.Append.{answer, appended}
+use Rattle.write_raw.specs.AppendLaws.{total-goes}
 use Rattle.round_trip.specs.Message.{Message, bytesOf, messageOf, Shaped, Sound, with, held}
 use Rattle.round_trip.specs.FrontLaws.{head-length, front, all-one, goods-one, attr-length, step-buffer}
 use Rattle.round_trip.specs.Bijection.{bijection, read-written, header-again, covered-again}

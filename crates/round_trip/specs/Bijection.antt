@@ -8,8 +8,8 @@ use lib.Seq.{take-at, drop-drop}
 use Rattle.base.specs.BytesLaws.{take-bytes, drop-bytes, append-bytes, byte-at}
 use Rattle.base.specs.Bytes.{Bytes}
 use Rattle.base.specs.SameLaws.{same-eq}
-use Rattle.numbers.specs.Numbers.{be16}
-use Rattle.constants.specs.Cookie.{cookie, cookieAt}
+use Rattle.big_endian.specs.Numbers.{be16}
+use Rattle.cookie.specs.Cookie.{cookie, cookieAt}
 use Rattle.wire.specs.TypeNumber.{typeOf, classOf, methodOf, classNumber, classNumbered}
 use Rattle.wire.specs.TypeLaws.{class-back, method-back, type-below, class-below, method-below, number-forth, class-numbered, class-number, class-small}
 use Rattle.wire.specs.declared.types.MessageClass.{MessageClass}
@@ -18,7 +18,7 @@ use Rattle.header.specs.HeaderLaws.{Checked, checked, unrefused}
 use Rattle.attribute.specs.Attribute.{padded, Attr, attrs, rest, parse, allBytes}
 use Rattle.attribute.specs.Good.{Goods}
 use Rattle.attribute.specs.RoundTripLaws.{goods-read, decode-allBytes, allBytes-decode}
-use Rattle.begin.specs.Begin.{headBytes}
+use Rattle.write_begin.specs.Begin.{headBytes}
 use Rattle.round_trip.specs.Message.{Message, bytesOf, messageOf, Octets, Shaped, Writable, Sound}
 use Rattle.round_trip.specs.FrontLaws.{head-length, head-size, head-type, head-fault, head-body}
 

@@ -11,18 +11,18 @@ use Rattle.base.specs.Choice.{pick}
 use Rattle.base.specs.Same.{same}
 use Rattle.base.specs.LaidLaws.{laid-is}
 use Rattle.base.specs.Laid.{laid}
-use Rattle.numbers.specs.Numbers.{be16, two}
-use Rattle.constants.specs.Cookie.{cookieAt}
+use Rattle.big_endian.specs.Numbers.{be16, two}
+use Rattle.cookie.specs.Cookie.{cookieAt}
 use Rattle.header.specs.Header.{frontFault}
 use Rattle.attribute.specs.Attribute.{padded, Attr, rest, parse, bytesOf, allBytes}
 use Rattle.attribute.specs.Good.{Good, Goods}
 use Rattle.attribute.specs.RoundTripLaws.{decode-allBytes}
-use Rattle.begin.specs.Begin.{headBytes}
-use Rattle.begin.specs.declared.Written.the-variants.{Total}
-use Rattle.plan.specs.Plan.{sizeOf, messageFault, bodyWith}
-use Rattle.plan.specs.PlanLaws.{message-is, goes, plan-is}
-use Rattle.plan.specs.declared.Plan.the-variants.{Go}
-use Rattle.append.specs.Append.{answered, written, planFor, answer, appended}
+use Rattle.write_begin.specs.Begin.{headBytes}
+use Rattle.write_begin.specs.declared.Written.the-variants.{Total}
+use Rattle.write_plan.specs.Plan.{sizeOf, messageFault, bodyWith}
+use Rattle.write_plan.specs.PlanLaws.{message-is, goes, plan-is}
+use Rattle.write_plan.specs.declared.Plan.the-variants.{Go}
+use Rattle.write_raw.specs.Append.{answered, written, planFor, answer, appended}
 
 -- the header of a buffer
 module _ (t n : ℕ) (id s : List ℕ) (il : length id ≡ 12) where

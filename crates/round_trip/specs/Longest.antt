@@ -4,14 +4,14 @@ use mathlib.Core.List.{List, [], _∷_, _++_}
 use mathlib.Core.Path.{_≡_, refl, sym, ap, _∙_}
 use native.Mathlib.Omega.{arith}
 use lib.ListN.{length, drop, replicate, length-append, length-replicate}
-use Rattle.numbers.specs.Numbers.{be16}
+use Rattle.big_endian.specs.Numbers.{be16}
 use Rattle.wire.specs.TypeNumber.{typeOf, classNumber}
 use Rattle.wire.specs.TypeLaws.{type-below, class-small}
 use Rattle.wire.specs.declared.types.MessageClass.the-variants.{Request}
 use Rattle.attribute.specs.Attribute.{padded, Attr, allBytes}
-use Rattle.begin.specs.declared.Written.the-variants.{Total, Refused}
-use Rattle.plan.specs.PlanLaws.{long, plan-is}
-use Rattle.append.specs.Append.{attr, answered, planFor, answer}
+use Rattle.write_begin.specs.declared.Written.the-variants.{Total, Refused}
+use Rattle.write_plan.specs.PlanLaws.{long, plan-is}
+use Rattle.write_raw.specs.Append.{attr, answered, planFor, answer}
 use Rattle.round_trip.specs.Message.{Message, bytesOf, Shaped, write, said}
 use Rattle.round_trip.specs.FrontLaws.{front, is-message, body-is}
 use Rattle.round_trip.specs.WriteAgain.{bytes-length}

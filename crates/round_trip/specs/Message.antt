@@ -4,7 +4,7 @@ use mathlib.Core.List.{List, [], _∷_, _++_}
 use mathlib.Core.Path.{_≡_}
 use lib.ListN.{length, take, drop}
 use Rattle.base.specs.Bytes.{Bytes}
-use Rattle.numbers.specs.Numbers.{be16}
+use Rattle.big_endian.specs.Numbers.{be16}
 use Rattle.wire.specs.TypeNumber.{typeOf, classOf, methodOf, classNumber, classNumbered}
 use Rattle.wire.specs.declared.method.Method.{Method}
 use Rattle.wire.specs.declared.transaction_id.TransactionId.{TransactionId}
@@ -13,15 +13,15 @@ use Rattle.header.specs.Header.{headerFault, idOf}
 use Rattle.attribute.specs.Attribute.{Attr, attrs, rest, parse, allBytes}
 use Rattle.attribute.specs.Good.{Goods}
 use Rattle.attribute.specs.Scan.{Pass}
-use Rattle.rfc5389.specs.declared.Row.{Row}
-use Rattle.fingerprints.specs.Fingerprints.{printFaults}
-use Rattle.message.specs.Reading.{valueFaults}
-use Rattle.message.specs.declared.Answer.the-variants.{Whole}
-use Rattle.message.specs.declared.Reading.{Reading}
-use Rattle.plan.specs.Plan.{sizeOf}
-use Rattle.begin.specs.Begin.{headBytes, begun, beginning}
-use Rattle.begin.specs.declared.Written.{Written}
-use Rattle.append.specs.Append.{answer, appended}
+use Rattle.registry.specs.declared.Row.{Row}
+use Rattle.read_fingerprints.specs.Fingerprints.{printFaults}
+use Rattle.read_message.specs.Reading.{valueFaults}
+use Rattle.read_message.specs.declared.Answer.the-variants.{Whole}
+use Rattle.read_message.specs.declared.Reading.{Reading}
+use Rattle.write_plan.specs.Plan.{sizeOf}
+use Rattle.write_begin.specs.Begin.{headBytes, begun, beginning}
+use Rattle.write_begin.specs.declared.Written.{Written}
+use Rattle.write_raw.specs.Append.{answer, appended}
 
 pub record Message : Type 0 where
   pub class : MessageClass

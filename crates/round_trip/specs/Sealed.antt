@@ -14,7 +14,7 @@ use Rattle.base.specs.Bytes.{Bytes}
 use Rattle.base.specs.SameLaws.{same-refl}
 use Rattle.base.specs.Same.{same}
 use Rattle.base.specs.Laid.{laid}
-use Rattle.numbers.specs.Numbers.{two, four, withLength}
+use Rattle.big_endian.specs.Numbers.{two, four, withLength}
 use Rattle.wire.specs.TypeNumber.{typeOf, classNumber}
 use Rattle.wire.specs.declared.method.Method.{Method}
 use Rattle.wire.specs.declared.types.MessageClass.{MessageClass}
@@ -25,24 +25,24 @@ use Rattle.crc.specs.Crc.{crc32Of}
 use Rattle.fingerprint.specs.Fingerprint.{fingerprintAt}
 use Rattle.hmac.specs.Hmac.{hmacOf}
 use Rattle.hmac.specs.HmacLaws.{length-hmac}
-use Rattle.rfc5389.specs.Rows.{rfc5389, look}
-use Rattle.rfc5389.specs.declared.Row.{Row}
-use Rattle.rfc5389.specs.Fault.{ruleFault, entryFault, fault}
-use Rattle.fingerprints.specs.Fingerprints.{printFault, printFaults}
-use Rattle.message.specs.Reading.{valueFaults, readingOf}
-use Rattle.message.specs.Whole.{attributes}
-use Rattle.message.specs.WholeLaws.{Parts, parts, parts-told, told-whole}
-use Rattle.message.specs.declared.Answer.the-variants.{Whole}
-use Rattle.message.specs.declared.Reading.{Reading}
-use Rattle.begin.specs.Begin.{headBytes}
-use Rattle.begin.specs.declared.Written.the-variants.{Total}
-use Rattle.plan.specs.Plan.{sizeOf}
-use Rattle.plan.specs.PlanLaws.{Going, message}
-use Rattle.plan.specs.PlanLaws as plan
-use Rattle.append.specs.Append.{answer, appended}
-use Rattle.append.specs.AppendLaws.{total-goes}
-use Rattle.integrity.specs.Integrity.{integrityAt}
-use Rattle.seal.specs.Seal.{fingerprint, integrity}
+use Rattle.registry.specs.Rows.{rfc5389, look}
+use Rattle.registry.specs.declared.Row.{Row}
+use Rattle.registry.specs.Fault.{ruleFault, entryFault, fault}
+use Rattle.read_fingerprints.specs.Fingerprints.{printFault, printFaults}
+use Rattle.read_message.specs.Reading.{valueFaults, readingOf}
+use Rattle.read_message.specs.Whole.{attributes}
+use Rattle.read_message.specs.WholeLaws.{Parts, parts, parts-told, told-whole}
+use Rattle.read_message.specs.declared.Answer.the-variants.{Whole}
+use Rattle.read_message.specs.declared.Reading.{Reading}
+use Rattle.write_begin.specs.Begin.{headBytes}
+use Rattle.write_begin.specs.declared.Written.the-variants.{Total}
+use Rattle.write_plan.specs.Plan.{sizeOf}
+use Rattle.write_plan.specs.PlanLaws.{Going, message}
+use Rattle.write_plan.specs.PlanLaws as plan
+use Rattle.write_raw.specs.Append.{answer, appended}
+use Rattle.write_raw.specs.AppendLaws.{total-goes}
+use Rattle.read_integrity.specs.Integrity.{integrityAt}
+use Rattle.write_close.specs.Seal.{fingerprint, integrity}
 use Rattle.round_trip.specs.Message.{Message, bytesOf, messageOf, Shaped, with, held, Right, wholeWith}
 use Rattle.round_trip.specs.FrontLaws.{head-length, head-again, all-append}
 use Rattle.round_trip.specs.Bijection.{read-written}

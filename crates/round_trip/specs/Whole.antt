@@ -8,12 +8,12 @@ use Rattle.wire.specs.declared.method.Method.{Method}
 use Rattle.wire.specs.declared.types.MessageClass.{MessageClass}
 use Rattle.attribute.specs.Attribute.{Attr}
 use Rattle.attribute.specs.Scan.{Pass}
-use Rattle.rfc5389.specs.declared.Row.{Row}
-use Rattle.fingerprints.specs.Fingerprints.{printFaults}
-use Rattle.message.specs.Reading.{valueFaults, readingOf}
-use Rattle.message.specs.Whole.{attributes}
-use Rattle.message.specs.WholeLaws.{Parts, parts, parts-told, told-whole}
-use Rattle.message.specs.declared.Answer.the-variants.{Whole}
+use Rattle.registry.specs.declared.Row.{Row}
+use Rattle.read_fingerprints.specs.Fingerprints.{printFaults}
+use Rattle.read_message.specs.Reading.{valueFaults, readingOf}
+use Rattle.read_message.specs.Whole.{attributes}
+use Rattle.read_message.specs.WholeLaws.{Parts, parts, parts-told, told-whole}
+use Rattle.read_message.specs.declared.Answer.the-variants.{Whole}
 use Rattle.round_trip.specs.Message.{Message, bytesOf, messageOf, Shaped, Writable, Sound, write, Right, wholeWith}
 use Rattle.round_trip.specs.Bijection.{bijection, read-written, header-again, covered-again}
 use Rattle.round_trip.specs.WriteAgain.{front-written}

@@ -12,10 +12,10 @@ use Rattle.wire.specs.TypeLaws.{type-below, class-small}
 use Rattle.attribute.specs.Attribute.{Attr, allBytes}
 use Rattle.attribute.specs.Attribute as one
 use Rattle.attribute.specs.Good.{Goods}
-use Rattle.begin.specs.Begin.{headBytes, beginFault, begun, beginning}
-use Rattle.begin.specs.declared.Written.{Written}
-use Rattle.begin.specs.declared.Written.the-variants.{Total}
-use Rattle.append.specs.Append.{answer}
+use Rattle.write_begin.specs.Begin.{headBytes, beginFault, begun, beginning}
+use Rattle.write_begin.specs.declared.Written.{Written}
+use Rattle.write_begin.specs.declared.Written.the-variants.{Total}
+use Rattle.write_raw.specs.Append.{answer}
 use Rattle.round_trip.specs.Message.{Message, bytesOf, Shaped, writeFrom, saidFrom, write, said}
 use Rattle.round_trip.specs.FrontLaws.{head-length, front, all-one, goods-one, step-answer, step-buffer}
 

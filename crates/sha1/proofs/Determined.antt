@@ -13,8 +13,8 @@ use Rattle.sha1.proofs.compression.absorb.Reads as absorb-reads
 use lib.ListN.{length}
 use Rattle.sha1.specs.declared.compression.State.{State}
 use Rattle.sha1.specs.Finished.{finished}
-use Rattle.sha1.proofs.endings.finish.Kinds as finish
-use Rattle.sha1.proofs.endings.finish.Reads as finish-reads
+use Rattle.sha1.proofs.padding.finish.Kinds as finish
+use Rattle.sha1.proofs.padding.finish.Reads as finish-reads
 
 pub determined-finish : Determines finish.ps finish.r {I = State × ℕ × List ℕ} {A = List ℕ} finish-reads.Asked finish-reads.Learnt
     (λ κs a. (a .0, a .1 .0, a .1 .1 .0 .now)) (λ κs z e. z)

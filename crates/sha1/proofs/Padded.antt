@@ -9,8 +9,8 @@ use Rattle.sha1.specs.declared.compression.State.{State}
 use Rattle.sha1.specs.Compression.{run}
 use Rattle.sha1.specs.CompressionLaws.{run-behind, run-on}
 use Rattle.sha1.specs.Finished.{countOf, padding, digest, finished}
-use Rattle.blocks.specs.Block.{blockOf}
-use Rattle.blocks.specs.BlockLaws.{block-short}
+use Rattle.hash_block.specs.Block.{blockOf}
+use Rattle.hash_block.specs.BlockLaws.{block-short}
 
 -- the count of bits, modulo 2 ^ 64 with no product above it
 pub bits : (n : ℕ) → n % 2305843009213693952 * 8 ≡ n * 8 % 2 ^ 64

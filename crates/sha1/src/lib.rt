@@ -3,11 +3,11 @@ ghost use mathlib.Core.Path.{_≡_};
 ghost use Rattle.sha1.specs.Sha1 as spec;
 
 pub mod compression;
-pub mod endings;
+pub mod padding;
 
 // SHA-1 of s.
 pub fn hash(s: &[u8]) -> [u8; 20]
     ensures { λ r. ⌜ r ≡ spec.sha1 (now (s .entry)) ⌝ }
 {
-    crate::endings::finish(crate::compression::START, 0, s)
+    crate::padding::finish(crate::compression::START, 0, s)
 }

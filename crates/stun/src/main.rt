@@ -1,4 +1,5 @@
 // stun: the front door. Shows, lists, writes and checks STUN messages; every rule is the library's.
+use hex::Hex;
 use stun_file::Form;
 use stun_io::errors::complain;
 use stun_io::errors::complain_column;
@@ -9,7 +10,6 @@ use stun_io::unbuffered::end;
 use stun_io::unbuffered::print;
 use stun_io::words::position;
 use stun_lines::answers::Job;
-use text::Hex;
 
 fn help() {
     print(
@@ -64,7 +64,7 @@ fn odd_key() -> usize {
 
 // A key in hex: its size, or more than the buffer has where it is none, which has been told.
 fn key_of(s: &[u8], key: &mut [u8]) -> usize {
-    let h = text::unhex(s, key);
+    let h = hex::unhex(s, key);
     match h {
         Hex::Bytes(size) => size,
         Hex::Bad(p) => bad_key(p),

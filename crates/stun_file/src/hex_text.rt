@@ -69,7 +69,7 @@ fn keep(b: u8, g: Reached, raw: &mut [u8]) {
     }
     let digits = [g.last, b];
     let mut byte = [0u8; 1];
-    text::unhex(&digits, &mut byte);
+    hex::unhex(&digits, &mut byte);
     buffers::put_bytes(raw, (g.digits / 2) as usize, &byte);
 }
 

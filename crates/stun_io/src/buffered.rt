@@ -26,7 +26,7 @@ pub fn is_fine(buf: &[u8; ROOM]) -> bool {
 }
 
 fn waiting(buf: &[u8]) -> usize {
-    numbers::u32_at(buf, 0) as usize
+    big_endian::u32_at(buf, 0) as usize
 }
 
 // Writes what waits. After a write that failed nothing more is written.
@@ -112,7 +112,7 @@ pub fn word(buf: &mut [u8; ROOM], n: u64, width: usize) {
 // The first bytes in hex, up to 128; answers how many.
 fn some_hex(buf: &mut [u8; ROOM], d: &[u8]) -> usize {
     let mut digits = [0u8; 256];
-    let n = text::show(d, &mut digits);
+    let n = hex::show(d, &mut digits);
     if 128 < n {
         return 0;
     }

@@ -1,8 +1,9 @@
 // One datagram's answers, for programs: the reading, the walk and the values, each a line of fields.
 use attribute::Walk;
-use message::Answer;
 use net::Family;
-use rfc5389::Entry;
+use read_message::Answer;
+use read_typed::Value;
+use registry::Entry;
 use stun_io::buffered::ROOM;
 use stun_io::buffered::decimal;
 use stun_io::buffered::hex;
@@ -13,7 +14,6 @@ use stun_io::buffered::word;
 use stun_io::parts::minus;
 use stun_io::parts::part;
 use stun_io::parts::plus;
-use typed::Value;
 use wire::method::Method;
 use wire::transaction_id::TransactionId;
 use wire::types::MessageClass;
@@ -68,7 +68,7 @@ fn told(buf: &mut [u8; ROOM], word: &[u8], n: u64) {
 }
 
 fn reading(d: &[u8], buf: &mut [u8; ROOM]) {
-    let r = message::read(d);
+    let r = read_message::read(d);
     let id = r.id;
     let answer = r.answer;
     match answer {
@@ -155,13 +155,13 @@ fn bytes(buf: &mut [u8; ROOM], s: &[u8]) {
 
 // What a value says, by its type.
 fn said(buf: &mut [u8; ROOM], kind: u16, value: &[u8], id: TransactionId) {
-    let t = typed::value_of(kind, value, id);
+    let t = read_typed::value_of(kind, value, id);
     let ip = t.ip;
     let v = t.value;
     match v {
         Value::Address { family, port } => address(buf, family, port, ip),
-        Value::Code { code } => error(buf, code, typed::part_of(kind, value)),
-        Value::Plain => bytes(buf, typed::part_of(kind, value)),
+        Value::Code { code } => error(buf, code, read_typed::part_of(kind, value)),
+        Value::Plain => bytes(buf, read_typed::part_of(kind, value)),
         Value::Refused { number } => decimal(buf, number as u64),
     }
 }
@@ -175,7 +175,7 @@ fn shown(
     value: &[u8],
     id: TransactionId,
 ) -> bool {
-    if let Entry::Unknown = rfc5389::entry_of(kind) {
+    if let Entry::Unknown = registry::entry_of(kind) {
         return none;
     }
     if !none {
@@ -219,7 +219,7 @@ fn checked(d: &[u8], key: &[u8], buf: &mut [u8; ROOM]) {
     told(
         buf,
         b" integrity ",
-        integrity::check_integrity(d, key) as u64,
+        read_integrity::check_integrity(d, key) as u64,
     );
 }
 

@@ -5,6 +5,7 @@ mod progress;
 
 use answers::Job;
 use answers::answer;
+use hex::Hex;
 use libc::STDIN_FILENO;
 use stun_io::buffered;
 use stun_io::buffered::ROOM;
@@ -21,7 +22,6 @@ use stun_io::parts::move_down;
 use stun_io::parts::part;
 use stun_io::parts::plus_u64;
 use stun_io::words::is_comment;
-use text::Hex;
 
 // As much of the input as is kept: more than the digits of a datagram's first bytes.
 const INPUT: usize = 131328;
@@ -75,7 +75,7 @@ fn first(d: &[u8], n: usize) -> &[u8] {
 
 // One line, without its end.
 fn one(s: &[u8], line: u64, job: Job, key: &[u8], raw: &mut [u8; MOST], buf: &mut [u8; ROOM]) {
-    let h = text::unhex(part(s, 0, without_return(s)), raw);
+    let h = hex::unhex(part(s, 0, without_return(s)), raw);
     match h {
         Hex::Bytes(size) => answer(first(raw, size), job, key, buf),
         Hex::Bad(p) => bad_line(line, plus_u64(p as u64, 1), buf),
@@ -189,7 +189,7 @@ fn full(c: State, s: &[u8], raw: &mut [u8; MOST]) -> State {
             c.have = 1;
             return c;
         }
-        text::unhex(first(s, MOST * 2), raw);
+        hex::unhex(first(s, MOST * 2), raw);
     }
     c.have = 0;
     more(c, s)

@@ -4,11 +4,11 @@ use mathlib.Core.List.{List}
 use mathlib.Core.Path.{_≡_, sym, ap, _∙_}
 use Rattle.wire.specs.declared.method.Method.{Method}
 use Rattle.wire.specs.declared.types.MessageClass.{MessageClass}
-use Rattle.rfc5389.specs.Rows.{rfc5389}
-use Rattle.message.specs.Reading.{answerSaid, readingSaid, readingOf}
-use Rattle.message.specs.declared.Answer.{Answer}
-use Rattle.message.specs.declared.Answer.the-variants.{Whole, Broken, Refused}
-use Rattle.message.specs.declared.Reading.{Reading}
+use Rattle.registry.specs.Rows.{rfc5389}
+use Rattle.read_message.specs.Reading.{answerSaid, readingSaid, readingOf}
+use Rattle.read_message.specs.declared.Answer.{Answer}
+use Rattle.read_message.specs.declared.Answer.the-variants.{Whole, Broken, Refused}
+use Rattle.read_message.specs.declared.Reading.{Reading}
 
 module _ (d : List ℕ) {r : Reading} (e : r ≡ readingOf rfc5389 d) where
   by-answer : {a : Answer} → r .answer ≡ a → min 1 (answerSaid a (r .id .bytes) .number) ≡ min 1 (readingSaid (readingOf rfc5389 d) .number)

@@ -1,9 +1,9 @@
 // stun read and stun check: one datagram shown for a person, and whether its signature is good. Each line but the first stands behind a line end.
 ghost use mathlib.Core.Path.{_≡_};
 ghost use Prim.Native.Nat.{min};
-ghost use Rattle.rfc5389.specs.Rows.{rfc5389};
-ghost use Rattle.message.specs.Reading.{readingSaid, readingOf};
-ghost use Rattle.integrity.specs.Integrity.{integrityFault};
+ghost use Rattle.registry.specs.Rows.{rfc5389};
+ghost use Rattle.read_message.specs.Reading.{readingSaid, readingOf};
+ghost use Rattle.read_integrity.specs.Integrity.{integrityFault};
 
 mod dump;
 mod page;
@@ -12,12 +12,12 @@ mod values;
 use attribute::Walk;
 use dump::rows;
 use libc::STDOUT_FILENO;
-use message::Answer;
 use page::bad;
 use page::column;
 use page::good;
 use page::named;
 use page::number;
+use read_message::Answer;
 use stun_file::Form;
 use stun_io::errors::status;
 use stun_io::input::MOST;
@@ -191,7 +191,7 @@ fn status_of(n: u8) -> u8
 fn datagram(d: &[u8], total: u64, colour: bool) -> u8
     ensures { λ r. ⌜ r ≡ min 1 (readingSaid (readingOf rfc5389 (now (d .entry))) .number) ⌝ }
 {
-    let r = message::read(d);
+    let r = read_message::read(d);
     let id = r.id;
     let answer = r.answer;
     match answer {
@@ -235,7 +235,7 @@ pub fn read(path: &[u8], form: Form) {
 fn check_datagram(d: &[u8], key: &[u8]) -> u8
     ensures { λ r. ⌜ r ≡ min 1 (integrityFault rfc5389 (now (d .entry)) (now (key .entry))) ⌝ }
 {
-    let n = integrity::check_integrity(d, key);
+    let n = read_integrity::check_integrity(d, key);
     print(b"integrity ");
     number(n);
     end();

@@ -5,9 +5,10 @@ use crate::page::column;
 use crate::page::good;
 use crate::page::named;
 use crate::page::number;
+use big_endian::u16_at;
 use net::Family;
-use numbers::u16_at;
-use rfc5389::Rule;
+use read_typed::Value;
+use registry::Rule;
 use stun_io::parts::minus;
 use stun_io::parts::plus;
 use stun_io::unbuffered::decimal;
@@ -15,7 +16,6 @@ use stun_io::unbuffered::hex;
 use stun_io::unbuffered::print;
 use stun_io::unbuffered::sign;
 use stun_io::unbuffered::word;
-use typed::Value;
 use wire::transaction_id::TransactionId;
 
 // A type's name, or its number where it has none; answers how many characters that takes.
@@ -190,7 +190,7 @@ fn bad_print(sum: u32, colour: bool) {
 fn checked_print(d: &[u8], at: usize, value: &[u8], colour: bool) {
     let sum = fingerprint::fingerprint_at(d, at);
     hex(value);
-    if numbers::u32_at(value, 0) == sum {
+    if big_endian::u32_at(value, 0) == sum {
         good(colour, b", good");
         return;
     }
@@ -211,7 +211,7 @@ fn plain(d: &[u8], at: usize, kind: u16, value: &[u8], colour: bool) {
         checked_print(d, at, value, colour);
         return;
     }
-    let rule = rfc5389::entry_rule(rfc5389::entry_of(kind));
+    let rule = registry::entry_rule(registry::entry_of(kind));
     match rule {
         Rule::Text => quoted(value),
         Rule::Types => list(value),
@@ -229,12 +229,12 @@ fn faulty(n: u8, value: &[u8], colour: bool) {
 
 // What the value of the attribute at a place says.
 pub fn said(d: &[u8], at: usize, kind: u16, value: &[u8], id: TransactionId, colour: bool) {
-    let t = typed::value_of(kind, value, id);
+    let t = read_typed::value_of(kind, value, id);
     let bytes = t.ip;
     let v = t.value;
     match v {
         Value::Address { family, port } => address(family, port, bytes),
-        Value::Code { code: n } => code(n, typed::part_of(kind, value)),
+        Value::Code { code: n } => code(n, read_typed::part_of(kind, value)),
         Value::Plain => plain(d, at, kind, value, colour),
         Value::Refused { number: n } => faulty(n, value, colour),
     }
@@ -242,7 +242,7 @@ pub fn said(d: &[u8], at: usize, kind: u16, value: &[u8], id: TransactionId, col
 
 // Padding is shown where it isn't nought: three bytes at most, so four make a number.
 pub fn padding(s: &[u8]) {
-    if numbers::u32_at(s, 0) != 0 {
+    if big_endian::u32_at(s, 0) != 0 {
         print(b", padding ");
         hex(s);
     }

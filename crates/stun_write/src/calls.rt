@@ -24,16 +24,16 @@ use crate::fields::types_of;
 use crate::kinds::class_of;
 use crate::kinds::is_address;
 use crate::kinds::is_text;
-use begin::Written;
 use digits::Number;
+use hex::Hex;
 use net::Family;
 use net::SocketAddr;
 use stun_io::parts::part;
 use stun_io::words::is_comment;
 use stun_io::words::position;
-use text::Hex;
 use wire::method::Method;
 use wire::transaction_id::TransactionId;
+use write_begin::Written;
 
 // As many characters as a line has at most, and as many bytes as a buffer has.
 pub const LONGEST: usize = 262144;
@@ -166,7 +166,7 @@ fn take(s: &[u8], wanted: [usize; FIELDS], bytes: &mut [u8; LONGEST]) -> Taken {
 fn begun(t: Taken, bytes: &[u8], message: &mut [u8]) -> Written {
     let mut id = [0u8; 12];
     buffers::put_bytes(&mut id, 0, part(bytes, 0, 12));
-    begin::begin(
+    write_begin::begin(
         message,
         class_of(t.first),
         Method {
@@ -180,7 +180,7 @@ fn begun(t: Taken, bytes: &[u8], message: &mut [u8]) -> Written {
 fn raw(t: Taken, bytes: &[u8], message: &mut [u8]) -> Written {
     let n = t.second as usize;
     let padding = part(bytes, n, t.third as usize);
-    append::append_raw(message, low(t.first), part(bytes, 0, n), padding)
+    write_raw::append_raw(message, low(t.first), part(bytes, 0, n), padding)
 }
 
 fn is_pair(family: Family, n: u64, ip: &[u8]) -> bool {
@@ -201,13 +201,13 @@ fn socket_addr(family: Family, port: u16, ip: &[u8]) -> SocketAddr {
 fn addressed(kind: u16, family: u64, port: u16, ip: &[u8], message: &mut [u8]) -> Written {
     if is_pair(Family::Ipv4, family, ip) {
         let a = socket_addr(Family::Ipv4, port, ip);
-        return addresses::append_address(message, kind, a);
+        return write_address::append_address(message, kind, a);
     }
     if is_pair(Family::Ipv6, family, ip) {
         let a = socket_addr(Family::Ipv6, port, ip);
-        return addresses::append_address(message, kind, a);
+        return write_address::append_address(message, kind, a);
     }
-    append_typed::append_value(message, 23, kind, b"")
+    write_typed::append_value(message, 23, kind, b"")
 }
 
 // address TYPE FAMILY PORT IPHEX
@@ -219,11 +219,11 @@ fn address(t: Taken, bytes: &[u8], message: &mut [u8]) -> Written {
 // text TYPE HEX, error CODE HEX, types T,T,.., integrity HEX and fingerprint, with the bytes of the last field
 fn added(call: usize, first: u64, last: &[u8], message: &mut [u8]) -> Written {
     match call {
-        7 => append_typed::append_text(message, low(first), last),
-        8 => error_codes::append_error_code(message, low(first), last),
-        9 => append_typed::append_unknown_attributes(message, last),
-        10 => seal::append_message_integrity(message, last),
-        _ => seal::append_fingerprint(message),
+        7 => write_typed::append_text(message, low(first), last),
+        8 => write_error_code::append_error_code(message, low(first), last),
+        9 => write_typed::append_unknown_attributes(message, last),
+        10 => write_close::append_message_integrity(message, last),
+        _ => write_close::append_fingerprint(message),
     }
 }
 

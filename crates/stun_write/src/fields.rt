@@ -1,11 +1,11 @@
 // The fields of a script's line, and what they say.
 use check::same;
 use digits::Number;
+use hex::Hex;
 use stun_io::parts::between;
 use stun_io::parts::find;
 use stun_io::parts::plus;
 use stun_io::words::is_blank;
-use text::Hex;
 
 // Passes by blanks, or by what is no blank; answers the place where that ends.
 fn pass(s: &[u8], from: usize, blanks: bool) -> usize {
@@ -46,7 +46,7 @@ pub fn bytes_of(t: &[u8], out: &mut [u8]) -> Hex {
     if same(t, b"-") {
         return Hex::Bytes(0);
     }
-    text::unhex(t, out)
+    hex::unhex(t, out)
 }
 
 // Puts a type's two bytes at a place; false where the text is no type or there is no room.

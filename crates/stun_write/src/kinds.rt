@@ -1,5 +1,5 @@
 // The library's classes by their numbers, and whether a type has a rule.
-use rfc5389::Rule;
+use registry::Rule;
 use wire::types::MessageClass;
 
 // What is no such number is taken for the last, whose number is another then.
@@ -13,7 +13,7 @@ pub fn class_of(n: u64) -> MessageClass {
 }
 
 pub fn is_address(kind: u16) -> bool {
-    let rule = rfc5389::entry_rule(rfc5389::entry_of(kind));
+    let rule = registry::entry_rule(registry::entry_of(kind));
     match rule {
         Rule::Address => true,
         Rule::XorAddress => true,
@@ -22,7 +22,7 @@ pub fn is_address(kind: u16) -> bool {
 }
 
 pub fn is_text(kind: u16) -> bool {
-    let rule = rfc5389::entry_rule(rfc5389::entry_of(kind));
+    let rule = registry::entry_rule(registry::entry_of(kind));
     match rule {
         Rule::Text => true,
         _ => false,

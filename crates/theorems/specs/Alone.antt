@@ -7,19 +7,19 @@ use borrow.Author.Tests.{eq-eqb, le-ltb, lt-leb}
 use lib.ListN.{length, drop, drop-of-length-le}
 use lib.Seq.{take-all}
 use Rattle.base.specs.Same.{same}
-use Rattle.numbers.specs.Numbers.{be16, two}
-use Rattle.constants.specs.Cookie.{cookie, cookieAt}
+use Rattle.big_endian.specs.Numbers.{be16, two}
+use Rattle.cookie.specs.Cookie.{cookie, cookieAt}
 use Rattle.wire.specs.TypeNumber.{typeOf, classNumber}
 use Rattle.wire.specs.TypeLaws.{class-back, method-back, type-below, class-small, class-numbered}
 use Rattle.wire.specs.declared.types.MessageClass.{MessageClass}
 use Rattle.header.specs.Header.{frontFault, headerFault, idOf}
 use Rattle.attribute.specs.Attribute.{stop, attrs, rest, parse}
 use Rattle.attribute.specs.BodyLaws.{parse-none}
-use Rattle.rfc5389.specs.declared.Row.{Row}
-use Rattle.message.specs.Reading.{readingOf}
-use Rattle.message.specs.Whole.{Whole, attributes}
-use Rattle.message.specs.WholeLaws.{Parts, parts-told, parts-whole}
-use Rattle.message.specs.declared.Answer.the-variants as answer
+use Rattle.registry.specs.declared.Row.{Row}
+use Rattle.read_message.specs.Reading.{readingOf}
+use Rattle.read_message.specs.Whole.{Whole, attributes}
+use Rattle.read_message.specs.WholeLaws.{Parts, parts-told, parts-whole}
+use Rattle.read_message.specs.declared.Answer.the-variants as answer
 
 -- the header of class c, method m and ID i, with body length 0
 abbrev pub alone : MessageClass → ℕ → List ℕ → List ℕ

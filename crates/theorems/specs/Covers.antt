@@ -7,19 +7,19 @@ use native.Mathlib.Omega.{arith}
 use lib.ListN.{length, drop, length-drop}
 use Rattle.base.specs.BytesLaws.{byte-at}
 use Rattle.base.specs.Bytes.{Bytes}
-use Rattle.numbers.specs.Numbers.{be16}
+use Rattle.big_endian.specs.Numbers.{be16}
 use Rattle.wire.specs.declared.method.Method.{Method}
 use Rattle.wire.specs.declared.types.MessageClass.{MessageClass}
 use Rattle.header.specs.HeaderLaws.{sized}
 use Rattle.attribute.specs.Attribute.{Attr, rest, parse}
 use Rattle.attribute.specs.Visits.{sizes, Visits, placed}
 use Rattle.attribute.specs.CoverLaws.{sizes-rest, sizes-least, visits, visits-one}
-use Rattle.rfc5389.specs.declared.Row.{Row}
-use Rattle.message.specs.Reading.{readingOf}
-use Rattle.message.specs.Whole.{Whole, attributes}
-use Rattle.message.specs.WholeLaws.{Parts, parts, told, told-whole}
-use Rattle.message.specs.declared.Answer.the-variants as answer
-use Rattle.message.specs.declared.Reading.{Reading}
+use Rattle.registry.specs.declared.Row.{Row}
+use Rattle.read_message.specs.Reading.{readingOf}
+use Rattle.read_message.specs.Whole.{Whole, attributes}
+use Rattle.read_message.specs.WholeLaws.{Parts, parts, told, told-whole}
+use Rattle.read_message.specs.declared.Answer.the-variants as answer
+use Rattle.read_message.specs.declared.Reading.{Reading}
 
 module _ (rows : List Row) (d : List ℕ) (w : Whole rows d) where
   -- 4 plus the padded size, summed over the attributes, is the body length

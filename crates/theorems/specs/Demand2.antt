@@ -23,30 +23,30 @@ use Rattle.net.specs.declared.SocketAddr.{SocketAddr}
 use Rattle.header.specs.Header.{frontOf}
 use Rattle.attribute.specs.Attribute.{Attr}
 use Rattle.attribute.specs.Visits.{Visits}
-use Rattle.rfc5389.specs.Rows.{ruleNumber, rfc5389, look, ruleIn, ruleOf}
-use Rattle.rfc5389.specs.Fault.{fault}
-use Rattle.rfc5389.specs.declared.Row.{Row}
-use Rattle.rfc5389.specs.declared.Rule.{Rule}
-use Rattle.rfc5389.specs.declared.Rule.the-variants as rule
-use Rattle.rfc5389.specs.declared.Entry.the-variants.{Listed}
-use Rattle.message.specs.Reading.{readingOf}
-use Rattle.message.specs.Whole.{Whole}
-use Rattle.message.specs.WholeLaws.{told}
-use Rattle.message.specs.declared.Reading.{Reading}
-use Rattle.typed.specs.Typed.{codeOf, without, saidBy, readOf, typedOf, partBy, partOf}
-use Rattle.typed.specs.TypedLaws.{fields, part}
-use Rattle.typed.specs.WrittenLaws as written
-use Rattle.typed.specs.declared.Value.the-variants.{Code, Plain}
-use Rattle.begin.specs.declared.Written.the-variants.{Total}
-use Rattle.plan.specs.Plan.{sizeOf}
-use Rattle.append.specs.Append.{answer, appended}
-use Rattle.append.specs.AppendLaws.{total-goes}
-use Rattle.append_typed.specs.Typed.{isRule, typed, refusal, textRefusal}
-use Rattle.append_typed.specs.TypedLaws.{no-fault, text-rule, text-right}
-use Rattle.addresses.specs.Address.{addressRefusal, given, addressAttr}
-use Rattle.addresses.specs.AddressLaws.{by-rule, address-entry, address-passes, given-long}
-use Rattle.error_codes.specs.ErrorCode.{codeValue, codeRefusal}
-use Rattle.error_codes.specs.ErrorCodeLaws.{code-right}
+use Rattle.registry.specs.Rows.{ruleNumber, rfc5389, look, ruleIn, ruleOf}
+use Rattle.registry.specs.Fault.{fault}
+use Rattle.registry.specs.declared.Row.{Row}
+use Rattle.registry.specs.declared.Rule.{Rule}
+use Rattle.registry.specs.declared.Rule.the-variants as rule
+use Rattle.registry.specs.declared.Entry.the-variants.{Listed}
+use Rattle.read_message.specs.Reading.{readingOf}
+use Rattle.read_message.specs.Whole.{Whole}
+use Rattle.read_message.specs.WholeLaws.{told}
+use Rattle.read_message.specs.declared.Reading.{Reading}
+use Rattle.read_typed.specs.Typed.{codeOf, without, saidBy, readOf, typedOf, partBy, partOf}
+use Rattle.read_typed.specs.TypedLaws.{fields, part}
+use Rattle.read_typed.specs.WrittenLaws as written
+use Rattle.read_typed.specs.declared.Value.the-variants.{Code, Plain}
+use Rattle.write_begin.specs.declared.Written.the-variants.{Total}
+use Rattle.write_plan.specs.Plan.{sizeOf}
+use Rattle.write_raw.specs.Append.{answer, appended}
+use Rattle.write_raw.specs.AppendLaws.{total-goes}
+use Rattle.write_typed.specs.Typed.{isRule, typed, refusal, textRefusal}
+use Rattle.write_typed.specs.TypedLaws.{no-fault, text-rule, text-right}
+use Rattle.write_address.specs.Address.{addressRefusal, given, addressAttr}
+use Rattle.write_address.specs.AddressLaws.{by-rule, address-entry, address-passes, given-long}
+use Rattle.write_error_code.specs.ErrorCode.{codeValue, codeRefusal}
+use Rattle.write_error_code.specs.ErrorCodeLaws.{code-right}
 use Rattle.round_trip.specs.Message.{Message, bytesOf, messageOf, Shaped, write, Right, wholeWith}
 use Rattle.round_trip.specs.Whole as whole
 use Rattle.round_trip.specs.Appending as append

@@ -4,8 +4,8 @@ use mathlib.Core.List.{List, [], _∷_, _++_}
 use mathlib.Core.Path.{_≡_}
 use Rattle.base.specs.Bytes.{Bytes}
 use Rattle.attribute.specs.Attribute.{Attr}
-use Rattle.rfc5389.specs.declared.Row.{Row}
-use Rattle.message.specs.Whole.{Whole, attributes}
+use Rattle.registry.specs.declared.Row.{Row}
+use Rattle.read_message.specs.Whole.{Whole, attributes}
 
 pub record Ends (rows : List Row) (d : List ℕ) : Type 0 where
   pub bytes : Bytes d

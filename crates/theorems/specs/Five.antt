@@ -6,18 +6,18 @@ use native.Mathlib.Omega.{arith}
 use lib.ListN.{length, getD, take, drop}
 use Rattle.base.specs.BytesLaws.{tested}
 use Rattle.base.specs.Same.{same}
-use Rattle.numbers.specs.Numbers.{be16, withLength}
-use Rattle.constants.specs.Cookie.{cookieAt}
+use Rattle.big_endian.specs.Numbers.{be16, withLength}
+use Rattle.cookie.specs.Cookie.{cookieAt}
 use Rattle.header.specs.Header.{frontFault, headerFault}
 use Rattle.crc.specs.Crc.{bitStep, bitSteps, byteStep, bytesFrom, crc32Of}
 use Rattle.attribute.specs.Attribute.{parse}
 use Rattle.attribute.specs.Scan.{scan, scanned}
 use Rattle.fingerprint.specs.Fingerprint.{fingerprintAt}
-use Rattle.rfc5389.specs.Rows.{look, rfc5389}
-use Rattle.rfc5389.specs.Fault.{ruleFault, entryFault, fault}
-use Rattle.fingerprints.specs.Fingerprints.{printFault, printFaults}
-use Rattle.message.specs.Reading.{answerSaid, readingSaid, valueFaults, outcome, readingOf}
-use Rattle.message.specs.Whole.{Whole, attributes}
+use Rattle.registry.specs.Rows.{look, rfc5389}
+use Rattle.registry.specs.Fault.{ruleFault, entryFault, fault}
+use Rattle.read_fingerprints.specs.Fingerprints.{printFault, printFaults}
+use Rattle.read_message.specs.Reading.{answerSaid, readingSaid, valueFaults, outcome, readingOf}
+use Rattle.read_message.specs.Whole.{Whole, attributes}
 use Rattle.theorems.specs.Ends.{Ends}
 
 -- a Binding request with an unknown attribute of eight bytes and a FINGERPRINT

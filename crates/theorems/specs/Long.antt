@@ -11,12 +11,12 @@ use lib.Dec.{ltb}
 use Rattle.base.specs.BytesLaws.{byte-at}
 use Rattle.base.specs.Bytes.{Bytes}
 use Rattle.base.specs.ListLaws.{drop-take}
-use Rattle.numbers.specs.Numbers.{be16}
-use Rattle.constants.specs.Cookie.{cookieAt}
+use Rattle.big_endian.specs.Numbers.{be16}
+use Rattle.cookie.specs.Cookie.{cookieAt}
 use Rattle.header.specs.Header.{frontFault, headerFault}
 use Rattle.header.specs.HeaderLaws.{sized}
-use Rattle.rfc5389.specs.declared.Row.{Row}
-use Rattle.message.specs.Reading.{readingOf}
+use Rattle.registry.specs.declared.Row.{Row}
+use Rattle.read_message.specs.Reading.{readingOf}
 
 module _ (d : List ℕ) (n : ℕ) (h : 65556 ≤ n) (l : n ≤ length d) where
   be16-same : (p : ℕ) → p + 2 ≤ n → be16 (take n d) p ≡ be16 d p

@@ -5,10 +5,10 @@ use mathlib.Core.Bool.{false}
 use mathlib.Core.List.{[], _∷_}
 use lib.ListN.{replicate}
 use Rattle.crc.specs.Crc.{bitStep, bitSteps, byteStep, bytesFrom, crc32Of}
-use Rattle.unicode.specs.Utf8.{begins, first, width, goes, isUtf8}
-use Rattle.unicode.specs.Scalars.{encode, join}
+use Rattle.utf8_spec.specs.Utf8.{begins, first, width, goes, isUtf8}
+use Rattle.utf8_spec.specs.Scalars.{encode, join}
 use Rattle.sha1.specs.Compression.{mixOf, constantOf, nextWord, schedule, round, rounds, compress, blocks, run}
-use Rattle.blocks.specs.Block.{blockOf}
+use Rattle.hash_block.specs.Block.{blockOf}
 use Rattle.sha1.specs.Finished.{countOf, padding, finished}
 use Rattle.sha1.specs.Sha1.{sha1}
 use Rattle.hmac.specs.Hmac.{keyBlock, xored, hmacOf}

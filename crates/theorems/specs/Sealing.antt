@@ -7,7 +7,7 @@ use lib.ListN.{take}
 use lib.Bits.{bitXor, xor-lt}
 use Rattle.base.specs.BytesLaws.{take-bytes}
 use Rattle.base.specs.Bytes.{Bytes}
-use Rattle.numbers.specs.Numbers.{four, withLength}
+use Rattle.big_endian.specs.Numbers.{four, withLength}
 use Rattle.crc.specs.Crc.{bitSteps, byteStep, bytesFrom, crc32Of}
 use Rattle.crc.specs.Octets.{octets}
 use Rattle.crc.specs.CrcLaws.{octets-lt}
@@ -15,16 +15,16 @@ use Rattle.wire.specs.declared.method.Method.{Method}
 use Rattle.wire.specs.declared.types.MessageClass.{MessageClass}
 use Rattle.attribute.specs.Attribute.{Attr}
 use Rattle.fingerprint.specs.Fingerprint.{fingerprintAt}
-use Rattle.rfc5389.specs.Rows.{rfc5389}
-use Rattle.message.specs.Reading.{readingOf}
-use Rattle.message.specs.WholeLaws.{told-whole}
-use Rattle.message.specs.declared.Answer.the-variants.{Whole}
-use Rattle.begin.specs.declared.Written.the-variants.{Total}
-use Rattle.plan.specs.Plan.{sizeOf}
-use Rattle.plan.specs.PlanLaws as plan
-use Rattle.append.specs.Append.{answer, appended}
-use Rattle.append.specs.AppendLaws.{total-goes}
-use Rattle.seal.specs.Seal.{fingerprint}
+use Rattle.registry.specs.Rows.{rfc5389}
+use Rattle.read_message.specs.Reading.{readingOf}
+use Rattle.read_message.specs.WholeLaws.{told-whole}
+use Rattle.read_message.specs.declared.Answer.the-variants.{Whole}
+use Rattle.write_begin.specs.declared.Written.the-variants.{Total}
+use Rattle.write_plan.specs.Plan.{sizeOf}
+use Rattle.write_plan.specs.PlanLaws as plan
+use Rattle.write_raw.specs.Append.{answer, appended}
+use Rattle.write_raw.specs.AppendLaws.{total-goes}
+use Rattle.write_close.specs.Seal.{fingerprint}
 use Rattle.round_trip.specs.Message.{Message, messageOf, Octets, Writable, with, held}
 use Rattle.round_trip.specs.Bijection.{bijection}
 use Rattle.round_trip.specs.Appending.{held-sound, with-shaped, appended-bytes, appended-message}

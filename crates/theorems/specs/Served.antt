@@ -10,19 +10,19 @@ use lib.Dec.{ltb}
 use Rattle.base.specs.Choice.{pick}
 use Rattle.wire.specs.declared.transaction_id.TransactionId.{TransactionId}
 use Rattle.attribute.specs.Attribute.{Attr}
-use Rattle.unicode.specs.Utf8.{isUtf8}
-use Rattle.rfc5389.specs.Rows.{look, rfc5389}
-use Rattle.rfc5389.specs.Fault.{ruleFault, entryFault, fault}
-use Rattle.rfc5389.specs.declared.Row.{Row}
-use Rattle.value.specs.First.{starts, first}
-use Rattle.value.specs.WholeLaws.{served}
-use Rattle.typed.specs.Typed.{typedSaid, typedOf}
-use Rattle.typed.specs.TypedLaws.{typed-number}
+use Rattle.utf8_spec.specs.Utf8.{isUtf8}
+use Rattle.registry.specs.Rows.{look, rfc5389}
+use Rattle.registry.specs.Fault.{ruleFault, entryFault, fault}
+use Rattle.registry.specs.declared.Row.{Row}
+use Rattle.read_first.specs.First.{starts, first}
+use Rattle.read_first.specs.WholeLaws.{served}
+use Rattle.read_typed.specs.Typed.{typedSaid, typedOf}
+use Rattle.read_typed.specs.TypedLaws.{typed-number}
 
 -- over any list of types, for every type and ID
-pub taken : (rows : List Row) (k : ℕ) (d : List ℕ) {p : ℕ} {a : Attr} (id : TransactionId) → first rows k d ≡ starts p a
+pub served-typed : (rows : List Row) (k : ℕ) (d : List ℕ) {p : ℕ} {a : Attr} (id : TransactionId) → first rows k d ≡ starts p a
     → typedSaid (typedOf rows k (a .value) id) .number ≡ 0
-taken rows k d {p} {a} id e = typed-number rows k (a .value) id ∙ served rows k d e
+served-typed rows k d {p} {a} id e = typed-number rows k (a .value) id ∙ served rows k d e
 
 -- so of the first REALM: it has at most 127 bytes and is UTF-8
 text : (v : List ℕ) → fault rfc5389 0x0014 v ≡ 0 → (length v ≤ 127) × (isUtf8 v ≡ true)

@@ -6,24 +6,24 @@ use lib.ListN.{length, take, drop, replicate}
 use Rattle.base.specs.Said.{Said, says}
 use Rattle.base.specs.Same.{same}
 use Rattle.base.specs.Laid.{laid}
-use Rattle.numbers.specs.Numbers.{be16, two}
+use Rattle.big_endian.specs.Numbers.{be16, two}
 use Rattle.buffers.specs.Put.{fitsAt, put}
-use Rattle.constants.specs.Cookie.{cookie, cookieAt}
+use Rattle.cookie.specs.Cookie.{cookie, cookieAt}
 use Rattle.wire.specs.TypeNumber.{typeOf, classOf, methodOf, classNumbered}
 use Rattle.header.specs.Header.{frontFault, headerFault, idOf}
 use Rattle.net.specs.Net.{xored, addrXor}
 use Rattle.attribute.specs.Attribute.{padded, Attr, stop, more, parse}
 use Rattle.attribute.specs.Scan.{scan, scanned}
-use Rattle.unicode.specs.Utf8.{isUtf8, goes}
-use Rattle.rfc5389.specs.Rows.{rfc5389, look, entrySaid, ruleIn}
-use Rattle.rfc5389.specs.Fault.{fault, entryFault, ruleFault, addressFault, codeFault}
-use Rattle.fingerprints.specs.Fingerprints.{printFaults, printFault}
-use Rattle.message.specs.Reading.{answerSaid, readingOf, outcome, valueFaults}
-use Rattle.value.specs.First.{firstFrom, firstIn, isWhole, first, valueOf}
-use Rattle.typed.specs.Typed.{valueSaid, typedSaid, ipOf, addressOf, codeOf, saidBy, readOf, typedOf}
-use Rattle.begin.specs.declared.Written.the-variants.{Total, Refused}
-use Rattle.plan.specs.Plan.{messageFault, covers, planOf}
-use Rattle.append.specs.Append.{attr, answered, written, planFor, answer, appended}
+use Rattle.utf8_spec.specs.Utf8.{isUtf8, goes}
+use Rattle.registry.specs.Rows.{rfc5389, look, entrySaid, ruleIn}
+use Rattle.registry.specs.Fault.{fault, entryFault, ruleFault, addressFault, codeFault}
+use Rattle.read_fingerprints.specs.Fingerprints.{printFaults, printFault}
+use Rattle.read_message.specs.Reading.{answerSaid, readingOf, outcome, valueFaults}
+use Rattle.read_first.specs.First.{firstFrom, firstIn, isWhole, first, valueOf}
+use Rattle.read_typed.specs.Typed.{valueSaid, typedSaid, ipOf, addressOf, codeOf, saidBy, readOf, typedOf}
+use Rattle.write_begin.specs.declared.Written.the-variants.{Total, Refused}
+use Rattle.write_plan.specs.Plan.{messageFault, covers, planOf}
+use Rattle.write_raw.specs.Append.{attr, answered, written, planFor, answer, appended}
 use Rattle.round_trip.specs.Message.{write, said}
 use Rattle.round_trip.specs.Longest.{zeros, longest}
 

@@ -13,19 +13,19 @@ use Rattle.base.specs.Bytes.{Bytes}
 use Rattle.wire.specs.declared.method.Method.{Method}
 use Rattle.wire.specs.declared.types.MessageClass.{MessageClass}
 use Rattle.attribute.specs.Attribute.{Attr, bytesOf, allBytes}
-use Rattle.rfc5389.specs.Rows.{rfc5389}
-use Rattle.message.specs.Reading.{readingOf}
-use Rattle.message.specs.declared.Answer.the-variants.{Whole}
-use Rattle.value.specs.First.{none, starts, firstFrom, firstIn, wholeBy, isWhole, isThere}
-use Rattle.begin.specs.declared.Written.the-variants.{Total}
-use Rattle.plan.specs.Plan.{sizeOf}
-use Rattle.plan.specs.PlanLaws.{message}
-use Rattle.plan.specs.PlanLaws as plan
-use Rattle.append.specs.Append.{answer, appended}
-use Rattle.append.specs.AppendLaws.{total-goes}
-use Rattle.integrity.specs.Integrity.{integrityFault}
-use Rattle.integrity.specs.IntegrityLaws.{signed-0}
-use Rattle.seal.specs.Seal.{integrity}
+use Rattle.registry.specs.Rows.{rfc5389}
+use Rattle.read_message.specs.Reading.{readingOf}
+use Rattle.read_message.specs.declared.Answer.the-variants.{Whole}
+use Rattle.read_first.specs.First.{none, starts, firstFrom, firstIn, wholeBy, isWhole, isThere}
+use Rattle.write_begin.specs.declared.Written.the-variants.{Total}
+use Rattle.write_plan.specs.Plan.{sizeOf}
+use Rattle.write_plan.specs.PlanLaws.{message}
+use Rattle.write_plan.specs.PlanLaws as plan
+use Rattle.write_raw.specs.Append.{answer, appended}
+use Rattle.write_raw.specs.AppendLaws.{total-goes}
+use Rattle.read_integrity.specs.Integrity.{integrityFault}
+use Rattle.read_integrity.specs.IntegrityLaws.{signed-0}
+use Rattle.write_close.specs.Seal.{integrity}
 use Rattle.round_trip.specs.Message.{Message, messageOf, held}
 use Rattle.round_trip.specs.Appending.{held-length, appended-message}
 use Rattle.round_trip.specs.Sealed.{low, signed, signed-whole}

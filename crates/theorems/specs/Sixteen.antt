@@ -13,8 +13,8 @@ use Rattle.base.specs.Choice.{pick}
 use Rattle.base.specs.BytesLaws.{byte-at, drop-bytes}
 use Rattle.base.specs.Bytes.{Bytes}
 use Rattle.base.specs.Same.{same}
-use Rattle.numbers.specs.Numbers.{be16, four}
-use Rattle.constants.specs.Cookie.{cookieAt}
+use Rattle.big_endian.specs.Numbers.{be16, four}
+use Rattle.cookie.specs.Cookie.{cookieAt}
 use Rattle.wire.specs.declared.method.Method.{Method}
 use Rattle.wire.specs.declared.types.MessageClass.{MessageClass}
 use Rattle.header.specs.Header.{frontFault, headerFault}
@@ -25,18 +25,18 @@ use Rattle.attribute.specs.Scan.{scan, scanned, Pass}
 use Rattle.attribute.specs.declared.Scan.{Scan}
 use Rattle.attribute.specs.declared.Scan.the-variants.{Passed, Fault}
 use Rattle.attribute.specs.PassLaws.{passed-all}
-use Rattle.unicode.specs.Utf8.{isUtf8}
+use Rattle.utf8_spec.specs.Utf8.{isUtf8}
 use Rattle.fingerprint.specs.Fingerprint.{fingerprintAt}
-use Rattle.rfc5389.specs.Rows.{look, rfc5389}
-use Rattle.rfc5389.specs.Fault.{addressFault, codeFault, ruleFault, entryFault, fault}
-use Rattle.rfc5389.specs.declared.Row.{Row}
-use Rattle.rfc5389.specs.declared.Rule.{Rule}
-use Rattle.rfc5389.specs.declared.Rule.the-variants.{Address, XorAddress, Text, Code, Types, Plain}
-use Rattle.rfc5389.specs.declared.Entry.{Entry}
-use Rattle.rfc5389.specs.declared.Entry.the-variants.{Listed, Unknown}
-use Rattle.fingerprints.specs.Fingerprints.{printFault, printFaults}
-use Rattle.message.specs.Reading.{valueFaults, andThen, outcome, answered, answerSaid, readingSaid, readingOf}
-use Rattle.message.specs.WholeLaws.{number-by, judged-answer, refused-answer}
+use Rattle.registry.specs.Rows.{look, rfc5389}
+use Rattle.registry.specs.Fault.{addressFault, codeFault, ruleFault, entryFault, fault}
+use Rattle.registry.specs.declared.Row.{Row}
+use Rattle.registry.specs.declared.Rule.{Rule}
+use Rattle.registry.specs.declared.Rule.the-variants.{Address, XorAddress, Text, Code, Types, Plain}
+use Rattle.registry.specs.declared.Entry.{Entry}
+use Rattle.registry.specs.declared.Entry.the-variants.{Listed, Unknown}
+use Rattle.read_fingerprints.specs.Fingerprints.{printFault, printFaults}
+use Rattle.read_message.specs.Reading.{valueFaults, andThen, outcome, answered, answerSaid, readingSaid, readingOf}
+use Rattle.read_message.specs.WholeLaws.{number-by, judged-answer, refused-answer}
 
 -- the header's numbers and those of values are smaller
 record Small (n : ℕ) : Type 0 where

@@ -15,7 +15,7 @@ use Rattle.base.specs.BytesLaws.{drop-bytes}
 use Rattle.base.specs.Bytes.{Bytes}
 use Rattle.base.specs.SameLaws.{same-eq}
 use Rattle.base.specs.Same.{same}
-use Rattle.numbers.specs.Numbers.{four}
+use Rattle.big_endian.specs.Numbers.{four}
 use Rattle.header.specs.Header.{headerFault}
 use Rattle.header.specs.HeaderLaws.{long, sized}
 use Rattle.attribute.specs.Attribute.{Attr, attrs, parse, bytesOf, allBytes}
@@ -23,11 +23,11 @@ use Rattle.attribute.specs.Good.{Good, Goods}
 use Rattle.attribute.specs.RoundTripLaws.{goods-read, write-read}
 use Rattle.fingerprint.specs.Fingerprint.{fingerprintAt}
 use Rattle.fingerprint.specs.StretchLaws.{Sealed, stretch-sealed}
-use Rattle.rfc5389.specs.declared.Row.{Row}
+use Rattle.registry.specs.declared.Row.{Row}
 use Rattle.attribute.specs.Scan.{Pass}
-use Rattle.fingerprints.specs.Fingerprints.{printFault, printFaults}
-use Rattle.message.specs.Whole.{Whole, attributes}
-use Rattle.message.specs.WholeLaws.{parts}
+use Rattle.read_fingerprints.specs.Fingerprints.{printFault, printFaults}
+use Rattle.read_message.specs.Whole.{Whole, attributes}
+use Rattle.read_message.specs.WholeLaws.{parts}
 use Rattle.round_trip.specs.FrontLaws.{all-append}
 use Rattle.theorems.specs.Ends.{Ends}
 

@@ -9,7 +9,7 @@ use borrow.Author.Tests.{le-leb, lt-leb}
 use lib.ListN.{length, getD, drop, drop-of-length-le}
 use lib.Seq.{drop-cons}
 use lib.Dec.{leb}
-use Rattle.unicode.specs.Points.{starts, points}
+use Rattle.utf8_spec.specs.Points.{starts, points}
 
 -- a byte, by the test of `starts`
 is-tail : (b : ℕ) (t : Bool) → t ≡ (leb 0x80 b && leb b 0xBF) → t ≡ true → 0 ≡ starts b

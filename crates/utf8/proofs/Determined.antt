@@ -4,10 +4,10 @@ use mathlib.Core.List.{List}
 use mathlib.Core.Bool.{Bool}
 use Rattle.base.specs.DeterminedLaws.{by}
 use Rattle.base.specs.Determined.{Determines}
-use Rattle.unicode.specs.Utf8.{isUtf8}
+use Rattle.utf8_spec.specs.Utf8.{isUtf8}
 use Rattle.utf8.proofs.is_utf8.Kinds as check
 use Rattle.utf8.proofs.is_utf8.Reads as check-reads
-use Rattle.unicode.specs.Points.{points}
+use Rattle.utf8_spec.specs.Points.{points}
 use Rattle.utf8.proofs.points.code_points.Kinds as count
 use Rattle.utf8.proofs.points.code_points.Reads as count-reads
 

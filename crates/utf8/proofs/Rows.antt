@@ -10,8 +10,8 @@ use lib.ListN.{length, getD, drop}
 use lib.Seq.{drop-cons}
 use lib.Dec.{leb}
 use borrow.Author.Tests.{leb-true}
-use Rattle.unicode.specs.Utf8.{_to_, Sequence, UTF8-1, UTF8-2, UTF8-3, UTF8-4, UTF8-char, OneOf, begins, first, width}
-use Rattle.unicode.specs.Utf8Laws.{and-left, and-right, apart, first-below, first-past, width-one}
+use Rattle.utf8_spec.specs.Utf8.{_to_, Sequence, UTF8-1, UTF8-2, UTF8-3, UTF8-4, UTF8-char, OneOf, begins, first, width}
+use Rattle.utf8_spec.specs.Utf8Laws.{and-left, and-right, apart, first-below, first-past, width-one}
 use Rattle.utf8.specs.Places.{widthAt, behindAt}
 
 at-place : (s : List ℕ) (at : ℕ) → at < length s → getD s at 0 ∷ drop (at + 1) s ≡ drop at s

@@ -8,8 +8,8 @@ use lib.ListN.{length, getD, drop, length-drop}
 use lib.Seq.{drop-cons}
 use lib.Dec.{leb}
 use borrow.Author.Tests.{le-leb, lt-leb, not-true, not-false}
-use Rattle.unicode.specs.Utf8.{_to_, Sequence, begins}
-use Rattle.unicode.specs.Utf8Laws.{begins-fits}
+use Rattle.utf8_spec.specs.Utf8.{_to_, Sequence, begins}
+use Rattle.utf8_spec.specs.Utf8Laws.{begins-fits}
 use Rattle.utf8.specs.Places.{behindAt}
 
 -- the test of the byte at i

@@ -7,8 +7,8 @@ use native.Mathlib.Omega.{arith}
 use native.Mathlib.Decide.{decLe}
 use lib.ListN.{length, getD, drop, drop-of-length-le, length-drop}
 use lib.Seq.{drop-cons, drop-drop}
-use Rattle.unicode.specs.Utf8.{width, isUtf8}
-use Rattle.unicode.specs.Utf8Laws.{width-found, utf8-empty, utf8-width, utf8-none}
+use Rattle.utf8_spec.specs.Utf8.{width, isUtf8}
+use Rattle.utf8_spec.specs.Utf8Laws.{width-found, utf8-empty, utf8-width, utf8-none}
 use Rattle.utf8.specs.Places.{widthAt}
 
 pub record Walked (s : List ℕ) (i : ℕ) : Type 0 where

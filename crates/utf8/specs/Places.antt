@@ -3,7 +3,7 @@ use Prim.Native.Nat.{ℕ, suc, _+_}
 use mathlib.Core.List.{List}
 use lib.ListN.{length, drop}
 use Rattle.base.specs.Choice.{pick}
-use Rattle.unicode.specs.Utf8.{Sequence, begins, width}
+use Rattle.utf8_spec.specs.Utf8.{Sequence, begins, width}
 
 -- how many bytes the character at a place has; none: 0
 unfoldable pub widthAt : List ℕ → ℕ → ℕ

@@ -5,7 +5,7 @@ ghost use mathlib.Core.Bool.{_&&_};
 ghost use Prim.Native.Nat.{_<_};
 ghost use lib.ListN.{length, getD};
 ghost use lib.Dec.{leb};
-ghost use Rattle.unicode.specs.Utf8.{_to_, UTF8-tail, isUtf8};
+ghost use Rattle.utf8_spec.specs.Utf8.{_to_, UTF8-tail, isUtf8};
 ghost use Rattle.utf8.specs.Places.{widthAt, behindAt};
 
 pub mod points;

@@ -2,7 +2,7 @@
 ghost use mathlib.Core.Path.{_≡_};
 ghost use Prim.Native.Nat.{_<_};
 ghost use lib.ListN.{length, getD};
-ghost use Rattle.unicode.specs.Points.{starts, points};
+ghost use Rattle.utf8_spec.specs.Points.{starts, points};
 
 // 1 where the byte at a place starts a code point, 0 where it is a UTF8-tail.
 fn starting(s: &[u8], i: usize) -> usize

@@ -1,17 +1,17 @@
 // RFC 5769's messages: read, checked under their keys and under a key with one bit changed, their addresses and realms.
 use crate::reader_vectors::wide;
-use integrity::check_integrity;
 use libc::STDOUT_FILENO;
-use message::Answer;
-use realm::realm_to_use;
-use rfc5389::errors::BadRequest;
-use rfc5389::errors::ServerError;
-use rfc5389::errors::StaleNonce;
-use rfc5389::errors::TryAlternate;
-use rfc5389::errors::Unauthorized;
-use rfc5389::errors::UnknownAttribute;
-use rfc5389::methods::BINDING;
-use typed::Value;
+use read_integrity::check_integrity;
+use read_message::Answer;
+use read_realm::realm_to_use;
+use read_typed::Value;
+use registry::errors::BadRequest;
+use registry::errors::ServerError;
+use registry::errors::StaleNonce;
+use registry::errors::TryAlternate;
+use registry::errors::Unauthorized;
+use registry::errors::UnknownAttribute;
+use registry::methods::BINDING;
 use wire::transaction_id::TransactionId;
 
 const XOR_MAPPED_ADDRESS: u16 = 0x0020;
@@ -62,7 +62,7 @@ fn refused(section: &[u8], n: u8) {
 
 // The reader's answer.
 fn read(section: &[u8], d: &[u8]) {
-    let r = message::read(d);
+    let r = read_message::read(d);
     let id = r.id;
     let answer = r.answer;
     match answer {
@@ -91,7 +91,7 @@ fn checked(section: &[u8], what: &[u8], d: &[u8], key: &[u8]) {
 // A datagram with FINGERPRINT is whole only where that is right.
 fn fingerprint(section: &[u8], d: &[u8]) {
     name(section, b"_fingerprint");
-    if value::has(d, 0x8028) {
+    if read_first::has(d, 0x8028) {
         put(b" yes\n");
     } else {
         put(b" no\n");
@@ -115,11 +115,11 @@ fn family_port_ip(section: &[u8], family: u8, port: u16, ip: [u8; 16]) {
 }
 
 fn address(section: &[u8], d: &[u8]) {
-    let r = message::read(d);
+    let r = read_message::read(d);
     let id = r.id;
-    let t = typed::value_of(
+    let t = read_typed::value_of(
         XOR_MAPPED_ADDRESS,
-        value::first_value(d, XOR_MAPPED_ADDRESS),
+        read_first::first_value(d, XOR_MAPPED_ADDRESS),
         id,
     );
     let v = t.value;

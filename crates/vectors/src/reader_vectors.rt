@@ -1,7 +1,7 @@
 // The reader: examples of docs/SCOPE.md and docs/DIFFERENCES.md, and what those pages say of each.
 ghost use Prim.Native.Nat.{_<_};
 use libc::STDOUT_FILENO;
-use message::Answer;
+use read_message::Answer;
 
 fn number(n: u64) {
     io::write_all(STDOUT_FILENO, b" ");
@@ -17,7 +17,7 @@ fn kind(name: &[u8], reason: u8, class: u16, method: u16) {
 
 // Kind, number, class, method, count, place.
 fn told(d: &[u8]) {
-    let r = message::read(d);
+    let r = read_message::read(d);
     let answer = r.answer;
     match answer {
         Answer::Whole {

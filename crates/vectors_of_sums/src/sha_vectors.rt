@@ -40,7 +40,7 @@ fn million() -> [u8; 20] {
     for _ in 0..15625usize {
         h = sha1::compression::absorb(h, &block);
     }
-    sha1::endings::finish(h, 15625, b"")
+    sha1::padding::finish(h, 15625, b"")
 }
 
 // The bytes 0, 1, 2 and so on.

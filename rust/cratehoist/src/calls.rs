@@ -5,11 +5,11 @@
 
 use crate::sys;
 pub use crate::sys::{
-    Address, Digest, First, Formed, Id, Name, Part, Reading, Step, Typed, Written,
+    Address, Digest, First, XorForm, Id, Name, Part, Reading, Step, Typed, Written,
 };
 
 /// The XOR form of an address, and of an XOR form the address; 12 where the family is none.
-pub fn address_xor(address: Address, id: Id) -> Formed {
+pub fn address_xor(address: Address, id: Id) -> XorForm {
     unsafe { sys::cratehoist_address_xor(address, id) }
 }
 

@@ -57,7 +57,7 @@ pub struct Address {
 
 #[repr(C)]
 #[derive(Debug, Clone, Copy, PartialEq, Eq)]
-pub struct Formed {
+pub struct XorForm {
     pub number: u8,
     pub address: Address,
 }
@@ -134,7 +134,7 @@ pub struct Name {
 }
 
 extern "C" {
-    pub fn cratehoist_address_xor(address: Address, id: Id) -> Formed;
+    pub fn cratehoist_address_xor(address: Address, id: Id) -> XorForm;
     pub fn cratehoist_walk(datagram: *const u8, datagram_size: usize, place: usize) -> Step;
     pub fn cratehoist_read(datagram: *const u8, datagram_size: usize) -> Reading;
     pub fn cratehoist_search(bytes: *const u8, bytes_size: usize, kind: u16) -> First;

@@ -62,7 +62,7 @@ fn addresses() {
     };
     assert_eq!(
         address_xor(plain, ID),
-        Formed {
+        XorForm {
             number: 0,
             address: form
         }

@@ -1,4 +1,4 @@
-use Rattle.message.specs.SaidLaws.{reading-one}
+use Rattle.read_message.specs.SaidLaws.{reading-one}
 use Rattle.c_read.proofs.Sayings.{whole, broken, refused}
 use borrow.Author.Needs.{needs}
 use Rattle.c_read.proofs.cratehoist_read.Statement.{statement}

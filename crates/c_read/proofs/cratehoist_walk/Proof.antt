@@ -1,5 +1,5 @@
 use Rattle.base.specs.ThroughLaws.{through}
-use Rattle.c_read.specs.Said.{stepOut}
+use Rattle.c_read.specs.Reading.{stepOut}
 use borrow.Author.Needs.{needs}
 use Rattle.c_read.proofs.cratehoist_walk.Statement.{statement}
 use Rattle.c_read.proofs.cratehoist_walk.Tie as tie

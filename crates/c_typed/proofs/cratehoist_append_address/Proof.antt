@@ -1,4 +1,4 @@
-use Rattle.begin.specs.SaidLaws.{written-one}
+use Rattle.write_begin.specs.SaidLaws.{written-one}
 use Rattle.c_typed.proofs.Addresses.{tells, keeps, tells-none, keeps-none}
 use borrow.Author.Needs.{needs}
 use Rattle.c_typed.proofs.cratehoist_append_address.Statement.{statement}

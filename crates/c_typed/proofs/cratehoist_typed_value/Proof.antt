@@ -1,4 +1,4 @@
-use Rattle.typed.specs.SaidLaws.{typed-one}
+use Rattle.read_typed.specs.SaidLaws.{typed-one}
 use Rattle.c_typed.proofs.Sayings.{address, code, plain, faulty}
 use borrow.Author.Needs.{needs}
 use Rattle.c_typed.proofs.cratehoist_typed_value.Statement.{statement}

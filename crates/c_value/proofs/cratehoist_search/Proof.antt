@@ -1,5 +1,5 @@
 use Rattle.base.specs.ThroughLaws.{through}
-use Rattle.c_value.specs.Said.{firstOut}
+use Rattle.c_value.specs.Part.{firstOut}
 use borrow.Author.Needs.{needs}
 use Rattle.c_value.proofs.cratehoist_search.Statement.{statement}
 use Rattle.c_value.proofs.cratehoist_search.Tie as tie

@@ -1,6 +1,6 @@
 use Rattle.base.specs.ThroughLaws.{through}
-use Rattle.begin.specs.SaidLaws.{written-one}
-use Rattle.c_write.specs.Said.{told}
+use Rattle.write_begin.specs.SaidLaws.{written-one}
+use Rattle.c_write.specs.Written.{told}
 use borrow.Author.Needs.{needs}
 use Rattle.c_write.proofs.cratehoist_append_message_integrity.Statement.{statement}
 use Rattle.c_write.proofs.cratehoist_append_message_integrity.Tie as tie

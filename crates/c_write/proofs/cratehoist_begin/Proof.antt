@@ -1,4 +1,4 @@
-use Rattle.begin.specs.SaidLaws.{written-one}
+use Rattle.write_begin.specs.SaidLaws.{written-one}
 use Rattle.c_write.proofs.Sayings.{no-class, kept, begins, leaves}
 use borrow.Author.Needs.{needs}
 use Rattle.c_write.proofs.cratehoist_begin.Statement.{statement}

@@ -1,7 +1,7 @@
 -- The small table passes the test of its rule.
 use mathlib.Core.Path.{_∙_}
 use Rattle.crc.specs.Crc.{bitStep, bitSteps}
-use Rattle.nibbles.specs.RowsLaws.{rows, bytes-halves}
+use Rattle.crc_nibbles.specs.RowsLaws.{rows, bytes-halves}
 use borrow.Author.Needs.{needs}
 use Rattle.crc32.proofs.update.Statement.{statement}
 use Rattle.crc32.proofs.update.Tie as tie

@@ -1,4 +1,4 @@
-use Rattle.message.specs.SaidLaws.{reading-one}
+use Rattle.read_message.specs.SaidLaws.{reading-one}
 use Rattle.stun_read.proofs.Ending.{whole, broken, refused}
 use borrow.Author.Needs.{needs}
 use Rattle.stun_read.proofs.datagram.Statement.{statement}

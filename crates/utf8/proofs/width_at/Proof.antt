@@ -1,5 +1,5 @@
 use native.Mathlib.Omega.{arith}
-use Rattle.unicode.specs.Utf8Laws.{row}
+use Rattle.utf8_spec.specs.Utf8Laws.{row}
 use Rattle.utf8.proofs.Rows.{row-width, two-rows-width, alone, none-between, none-above}
 use borrow.Author.Needs.{needs}
 use Rattle.utf8.proofs.width_at.Statement.{statement}

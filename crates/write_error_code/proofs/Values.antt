@@ -1,0 +1,79 @@
+-- The bytes of the value, and what the call returns and leaves in the buffer.
+use Prim.Native.Nat.{ℕ, _+_, _-_, _/_, _%_, _≤_, _<_}
+use mathlib.Core.List.{List, _++_}
+use mathlib.Core.Bool.{true, false}
+use mathlib.Core.Path.{_≡_, sym, ap, ap₂, _∙_}
+use native.Mathlib.Omega.{arith}
+use borrow.Author.Tests.{lt-ltb, le-ltb, ltb-true}
+use lib.ListN.{length, take, drop, set, replicate}
+use lib.Seq.{take-at}
+use lib.Dec.{ltb}
+use Rattle.base.specs.LaidLaws.{laid-is}
+use Rattle.buffers.specs.Put.{put}
+use Rattle.buffers.specs.PutLaws.{put-laid}
+use Rattle.registry.specs.Rows.{rfc5389, look}
+use Rattle.registry.specs.Fault.{fault, entryFault}
+use Rattle.write_begin.specs.declared.Written.{Written}
+use Rattle.write_raw.specs.Append.{answer, appended}
+use Rattle.write_raw.specs.AppendLaws.{answer-wrong, appended-wrong}
+use Rattle.write_typed.specs.Typed.{typed, refusal}
+use Rattle.write_error_code.specs.ErrorCode.{codeValue, codeRefusal}
+
+pub code-bytes : (c : ℕ) (s : List ℕ) {m : List ℕ} → length s ≤ 127 → m ≡ put (set (set (replicate 131 0) 2 (c / 100)) 3 (c % 100)) 4 s
+    → take (4 + length s) m ≡ codeValue c s
+unfolding codeValue
+code-bytes c s {m} l e =
+    let v : List ℕ = set (set (replicate 131 0) 2 (c / 100)) 3 (c % 100) in
+    let b : m ≡ take 4 v ++ s ++ drop (4 + length s) v = e ∙ put-laid v 4 s (omega arith) ∙ laid-is v 4 s (omega arith) in
+    ap (take (4 + length s)) b ∙ take-at (take 4 v ++ s) (drop (4 + length s) v) (4 + length s) (omega arith)
+
+-- an ERROR-CODE of more than 131 bytes
+above-131 : (v : List ℕ) → 131 < length v → fault rfc5389 0x0009 v ≡ 11
+unfolding fault look entryFault
+above-131 v h = simp (le-ltb (length v) 4 (omega arith), lt-ltb 131 (length v) h)
+
+-- by the three tests, of which the first tells an order and the others a truth
+module _ (c : ℕ) (s : List ℕ) where
+  pub too-low : c < 300 → codeRefusal rfc5389 c s ≡ 23
+  unfolding codeRefusal
+  too-low l = simp (lt-ltb c 300 l)
+
+  module _ (l : 300 ≤ c) where
+    pub too-high : ltb 699 c ≡ true → codeRefusal rfc5389 c s ≡ 23
+    unfolding codeRefusal
+    too-high h = simp (le-ltb c 300 l, h)
+
+    module _ (h : ltb 699 c ≡ false) where
+      by-value : codeRefusal rfc5389 c s ≡ refusal rfc5389 0x0009 (codeValue c s)
+      unfolding codeRefusal
+      by-value = simp (le-ltb c 300 l, h)
+
+      pub too-long : ltb 127 (length s) ≡ true → codeRefusal rfc5389 c s ≡ 23
+      unfolding refusal codeValue
+      too-long n = by-value ∙ rw (above-131 (codeValue c s) (omega (arith, ltb-true 127 (length s) n)))
+
+      -- a code in range with a phrase that fits is judged by its bytes
+      module _ (d m : List ℕ) (e : take (4 + length s) m ≡ codeValue c s) {w : ℕ} (we : w ≡ refusal rfc5389 0x0009 (take (4 + length s - 0) (drop 0 m))) where
+        bytes : take (4 + length s - 0) (drop 0 m) ≡ codeValue c s
+        bytes = let z : 4 + length s - 0 ≡ 4 + length s = omega arith in ap (λ (i : ℕ). take i m) z ∙ e
+
+        wrong : w ≡ codeRefusal rfc5389 c s
+        wrong = we ∙ ap (refusal rfc5389 0x0009) bytes ∙ sym by-value
+
+        pub code-answer : {r : Written} → r ≡ answer d w (typed 0x0009 (take (4 + length s - 0) (drop 0 m)))
+            → r ≡ answer d (codeRefusal rfc5389 c s) (typed 0x0009 (codeValue c s))
+        code-answer p = p ∙ ap₂ (λ (f : ℕ) (v : List ℕ). answer d f (typed 0x0009 v)) wrong bytes
+
+        pub code-buffer : {b : List ℕ} → b ≡ appended d w (typed 0x0009 (take (4 + length s - 0) (drop 0 m)))
+            → b ≡ appended d (codeRefusal rfc5389 c s) (typed 0x0009 (codeValue c s))
+        code-buffer p = p ∙ ap₂ (λ (f : ℕ) (v : List ℕ). appended d f (typed 0x0009 v)) wrong bytes
+
+  -- any other is refused, whatever stands for its value
+  module _ (d : List ℕ) (e : codeRefusal rfc5389 c s ≡ 23) (v : List ℕ) where
+    pub stops : {r : Written} → r ≡ answer d 23 (typed 0x0009 v) → r ≡ answer d (codeRefusal rfc5389 c s) (typed 0x0009 (codeValue c s))
+    stops p = rw e (p ∙ answer-wrong d 23 (λ z. omega arith) (typed 0x0009 v) (typed 0x0009 (codeValue c s)))
+
+    pub keeps : {b : List ℕ} → b ≡ appended d 23 (typed 0x0009 v) → b ≡ appended d (codeRefusal rfc5389 c s) (typed 0x0009 (codeValue c s))
+    keeps p =
+        rw e
+        (p ∙ appended-wrong d 23 (λ z. omega arith) (typed 0x0009 v) ∙ sym (appended-wrong d 23 (λ z. omega arith) (typed 0x0009 (codeValue c s))))
