@@ -1,6 +1,6 @@
 /* Cratehoist: a STUN codec (RFC 5389), proved. For C99 and later, and C++.
  *
- * Link libcratehoist.a, which `tools/native-lib cratehoist` proves and builds; it needs memcpy and memset only.
+ * Link libcratehoist.a, which `tools/native-lib cratehoist` makes; it needs memcpy and memset only.
  *
  * No call allocates, keeps a pointer, or asks anything of its caller but this: a pointer has as many bytes behind it as the
  * size that follows it says (NULL with size 0 is an empty one), and a buffer that is written overlaps no other argument.

@@ -1,4 +1,4 @@
-//! Proves and builds the library where it isn't yet, and links it.
+//! Makes the library where it isn't there yet, and links it.
 use std::path::Path;
 use std::process::Command;
 
