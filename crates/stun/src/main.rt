@@ -5,31 +5,27 @@ use stun_io::errors::complain;
 use stun_io::errors::complain_column;
 use stun_io::errors::fail;
 use stun_io::errors::status;
+use stun_io::parts::part;
 use stun_io::parts::plus_u64;
-use stun_io::unbuffered::end;
-use stun_io::unbuffered::print;
 use stun_io::words::position;
 use stun_lines::answers::Job;
 
-fn help() {
-    print(
-        b"stun read FILE|- [--hex | --raw]\n\
-        \x20   a datagram shown for a person, from raw bytes or hex text; ends with 1 where it is broken or refused\n\
-        stun lines [--walk | --values | --key HEX] < FILE\n\
-        \x20   a line of hex a datagram in (# starts a remark), a line each out:\n\
-        \x20   whole CLASS METHOD ID COUNT, broken CLASS METHOD ID NUMBER PLACE, refused NUMBER;\n\
-        \x20   ? where the line is no hex, and standard error says where\n\
-        stun write < SCRIPT\n\
-        \x20   a call a line into a buffer of 65,552 bytes, a line each out: ok SIZE, no NUMBER, or ? and what was expected;\n\
-        \x20   begin CLASS METHOD ID, raw TYPE VALUE PADDING, address TYPE FAMILY PORT IP, text TYPE HEX, error CODE HEX,\n\
-        \x20   types T,T,.., integrity KEY, fingerprint; show prints the message, dump the buffer,\n\
-        \x20   buffer N makes it N bytes of AA, load HEX just these; bytes in hex, - for none; # starts a remark\n\
-        stun check KEY FILE|-\n\
-        \x20   is the datagram's MESSAGE-INTEGRITY made with the key, given in hex?\n\
-        stun numbers [N]\n\
-        \x20   what the numbers mean, and what to do about them",
-    );
-    end();
+// The launcher answers the help and the numbers.
+enum Command {
+    Read,
+    Lines,
+    Write,
+    Check,
+    Unknown,
+}
+
+enum Flag {
+    Walk,
+    Values,
+    Key,
+    Hex,
+    Raw,
+    Unknown,
 }
 
 // An argument's place in a list of words.
@@ -37,6 +33,29 @@ fn word_at(i: usize, list: &[u8]) -> usize {
     let mut arg = [0u8; 16];
     let n = os::arg(i, &mut arg);
     position(&arg[..n], list)
+}
+
+fn command_at(i: usize) -> Command {
+    let n = word_at(i, b"read lines write check");
+    match n {
+        0 => Command::Read,
+        1 => Command::Lines,
+        2 => Command::Write,
+        3 => Command::Check,
+        _ => Command::Unknown,
+    }
+}
+
+fn flag_at(i: usize) -> Flag {
+    let n = word_at(i, b"--walk --values --key --hex --raw");
+    match n {
+        0 => Flag::Walk,
+        1 => Flag::Values,
+        2 => Flag::Key,
+        3 => Flag::Hex,
+        4 => Flag::Raw,
+        _ => Flag::Unknown,
+    }
 }
 
 // Refuses the argument at a place.
@@ -49,24 +68,30 @@ fn refuse(i: usize) {
     status(2);
 }
 
-fn bad_key(p: usize) -> usize {
+// A key's size; or it is none, which has been told.
+enum Key {
+    Size(usize),
+    Bad,
+}
+
+fn bad_key(p: usize) -> Key {
     complain(b"stun: the key");
     complain_column(plus_u64(p as u64, 1));
     status(2);
-    usize::MAX
+    Key::Bad
 }
 
-fn odd_key() -> usize {
+fn odd_key() -> Key {
     complain(b"stun: the key has an odd number of hex digits\n");
     status(2);
-    usize::MAX
+    Key::Bad
 }
 
-// A key in hex: its size, or more than the buffer has where it is none, which has been told.
-fn key_of(s: &[u8], key: &mut [u8]) -> usize {
+// A key in hex; its bytes go to `key`.
+fn key_of(s: &[u8], key: &mut [u8]) -> Key {
     let h = hex::unhex(s, key);
     match h {
-        Hex::Bytes(size) => size,
+        Hex::Bytes(size) => Key::Size(size),
         Hex::Bad(p) => bad_key(p),
         Hex::Odd => odd_key(),
     }
@@ -81,11 +106,11 @@ fn is_whole(what: &[u8]) -> bool {
     false
 }
 
-fn key_at(i: usize, key: &mut [u8]) -> usize {
+fn key_at(i: usize, key: &mut [u8]) -> Key {
     let mut arg = io::large_buffer();
     let n = os::arg(i, &mut arg);
     if !is_whole(b"stun: the key") {
-        return usize::MAX;
+        return Key::Bad;
     }
     key_of(&arg[..n], key)
 }
@@ -110,11 +135,10 @@ fn keyed_lines() {
         return;
     }
     let mut key = io::large_buffer();
-    let n = key_at(3, &mut key);
-    if key.len() < n {
+    let Key::Size(n) = key_at(3, &mut key) else {
         return;
-    }
-    stun_lines::run(Job::Keyed, &key[0..n]);
+    };
+    stun_lines::run(Job::Keyed, part(&key, 0, n));
 }
 
 fn check_with(key: &[u8]) {
@@ -132,11 +156,10 @@ fn check_command() {
         return;
     }
     let mut key = io::large_buffer();
-    let n = key_at(2, &mut key);
-    if key.len() < n {
+    let Key::Size(n) = key_at(2, &mut key) else {
         return;
-    }
-    check_with(&key[0..n]);
+    };
+    check_with(part(&key, 0, n));
 }
 
 fn read_at(i: usize, form: Form) {
@@ -149,10 +172,10 @@ fn read_at(i: usize, form: Form) {
 
 // A form before or behind the file.
 fn with_form(i: usize, at: usize) -> bool {
-    let form = word_at(i, b"--hex --raw");
-    match form {
-        0 => read_at(at, Form::Hex),
-        1 => read_at(at, Form::Raw),
+    let flag = flag_at(i);
+    match flag {
+        Flag::Hex => read_at(at, Form::Hex),
+        Flag::Raw => read_at(at, Form::Raw),
         _ => return false,
     }
     true
@@ -181,11 +204,11 @@ fn lines_command() {
         lines_of(Job::Reading);
         return;
     }
-    let word = word_at(2, b"--walk --values --key");
-    match word {
-        0 => lines_of(Job::Walk),
-        1 => lines_of(Job::Values),
-        2 => keyed_lines(),
+    let flag = flag_at(2);
+    match flag {
+        Flag::Walk => lines_of(Job::Walk),
+        Flag::Values => lines_of(Job::Values),
+        Flag::Key => keyed_lines(),
         _ => refuse(2),
     }
 }
@@ -197,17 +220,12 @@ fn write_command() {
 }
 
 fn main() {
-    if os::arg_count() < 2 {
-        help();
-        return;
-    }
-    let word = word_at(1, b"lines read write check help --help");
-    match word {
-        0 => lines_command(),
-        1 => read_command(),
-        2 => write_command(),
-        3 => check_command(),
-        4 | 5 => help(),
-        _ => refuse(1),
+    let command = command_at(1);
+    match command {
+        Command::Read => read_command(),
+        Command::Lines => lines_command(),
+        Command::Write => write_command(),
+        Command::Check => check_command(),
+        Command::Unknown => refuse(1),
     }
 }

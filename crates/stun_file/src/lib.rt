@@ -10,61 +10,41 @@ use stun_io::errors::complain_column;
 use stun_io::errors::complain_number;
 use stun_io::errors::status;
 use stun_io::errors::unread;
+use stun_io::input::Got;
 use stun_io::input::read_behind;
+use stun_io::parts::first;
 use stun_io::parts::part;
 use stun_io::words::is_blank;
 
 // As much as is read at a time.
 const FILE: usize = 65600;
 
-// What was found: the first bytes, and how many there are in all; or nothing, where it has been told why.
-pub struct Found {
-    pub good: bool,
-    pub size: usize,
-    pub total: u64,
+// A datagram: how many of its first bytes were kept, and how many there are in all. Or nothing, where it has been told why.
+pub enum Found {
+    Datagram { size: usize, total: u64 },
+    Nothing,
 }
 
-fn nothing() -> Found {
-    Found {
-        good: false,
-        size: 0,
-        total: 0,
-    }
+// How many bytes the buffer has, or that reading failed, which has been told.
+enum Filled {
+    Bytes(usize),
+    Failed,
 }
 
-// Reads until the buffer is full or the file ends, and answers how much there is; more than there is room for where reading fails,
-// which has been told.
-fn filled(fd: i32, name: &[u8], file: &mut [u8; FILE]) -> usize {
+// Reads until the buffer is full or the file ends.
+fn fill(fd: i32, name: &[u8], file: &mut [u8; FILE]) -> Filled {
     let mut have = 0;
     let mut left = FILE;
     while left > 0 && have < FILE {
-        let end = read_behind(fd, name, file, have);
-        if end == have {
-            return have;
+        let got = read_behind(fd, name, file, have);
+        match got {
+            Got::Upto(end) => have = end,
+            Got::End => return Filled::Bytes(have),
+            Got::Failed => return Filled::Failed,
         }
-        have = end;
         left -= 1;
     }
-    have
-}
-
-// The text, of which so many bytes have been read. Line 0 stands for reading that failed.
-fn all_text(fd: i32, name: &[u8], have: usize, file: &mut [u8; FILE], raw: &mut [u8]) -> Reached {
-    let mut g = at_start();
-    let mut n = have;
-    let mut left = u64::MAX;
-    while left > 0 && 0 < n && n <= FILE {
-        g = gather(part(file, 0, n), g, raw);
-        if g.bad {
-            return g;
-        }
-        n = filled(fd, name, file);
-        left -= 1;
-    }
-    if FILE < n {
-        g.line = 0;
-    }
-    g
+    Filled::Bytes(have)
 }
 
 // Text has only characters that can be printed, and white ones: no message does, since the cookie's second byte is 18.
@@ -107,43 +87,51 @@ fn fault_odd(name: &[u8]) {
 
 // As many bytes as there are, or as there is room for.
 fn of_size(total: u64, raw: &[u8]) -> Found {
-    let room = raw.len() as u64;
-    if room < total {
-        return Found {
-            good: true,
-            size: raw.len(),
-            total,
-        };
+    let room = raw.len();
+    if (room as u64) < total {
+        return Found::Datagram { size: room, total };
     }
-    Found {
-        good: true,
+    Found::Datagram {
         size: total as usize,
         total,
     }
 }
 
-fn from_text(name: &[u8], g: Reached, raw: &[u8]) -> Found {
-    if g.line == 0 {
-        return nothing();
-    }
-    if g.bad {
-        fault_at(name, g);
-        return nothing();
-    }
-    if g.digits % 2 != 0 {
+fn of_digits(name: &[u8], digits: u64, raw: &[u8]) -> Found {
+    if digits % 2 != 0 {
         fault_odd(name);
-        return nothing();
+        return Found::Nothing;
     }
-    of_size(g.digits / 2, raw)
+    of_size(digits / 2, raw)
 }
 
+// The text, of which so many bytes have been read.
+fn from_text(fd: i32, name: &[u8], have: usize, file: &mut [u8; FILE], raw: &mut [u8]) -> Found {
+    let mut g = at_start();
+    let mut n = have;
+    let mut left = u64::MAX;
+    while left > 0 && 0 < n {
+        g = gather(part(file, 0, n), g, raw);
+        if g.bad {
+            fault_at(name, g);
+            return Found::Nothing;
+        }
+        let Filled::Bytes(more) = fill(fd, name, file) else {
+            return Found::Nothing;
+        };
+        n = more;
+        left -= 1;
+    }
+    of_digits(name, g.digits, raw)
+}
+
+// Of more bytes than there is room for the first are kept.
 fn from_raw(s: &[u8], raw: &mut [u8]) -> Found {
-    let f = of_size(s.len() as u64, raw);
-    buffers::put_bytes(raw, 0, part(s, 0, f.size));
-    f
+    buffers::put_bytes(raw, 0, first(s, raw.len()));
+    of_size(s.len() as u64, raw)
 }
 
-// How the bytes of a file are to be taken.
+// How the bytes of a file are to be taken; where nothing is said they tell it themselves.
 pub enum Form {
     Told,
     Hex,
@@ -168,8 +156,7 @@ fn by_form(
     raw: &mut [u8],
 ) -> Found {
     if as_text(form, part(file, 0, have)) {
-        let g = all_text(fd, name, have, file, raw);
-        return from_text(name, g, raw);
+        return from_text(fd, name, have, file, raw);
     }
     from_raw(part(file, 0, have), raw)
 }
@@ -178,10 +165,9 @@ fn by_form(
 // answered as all are.
 fn taken(fd: i32, name: &[u8], form: Form, raw: &mut [u8]) -> Found {
     let mut file = [0u8; FILE];
-    let have = filled(fd, name, &mut file);
-    if FILE < have {
-        return nothing();
-    }
+    let Filled::Bytes(have) = fill(fd, name, &mut file) else {
+        return Found::Nothing;
+    };
     by_form(fd, name, form, have, &mut file, raw)
 }
 
@@ -193,7 +179,7 @@ pub fn datagram(path: &[u8], form: Form, raw: &mut [u8]) -> Found {
     let fd = os::open_read(path);
     if fd < 0 {
         unread(path);
-        return nothing();
+        return Found::Nothing;
     }
     let f = taken(fd, path, form, raw);
     libc::close(fd);

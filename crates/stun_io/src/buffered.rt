@@ -5,146 +5,132 @@ use crate::parts::part;
 use crate::parts::plus;
 use libc::STDOUT_FILENO;
 
-// The buffer's front is its own: how many bytes wait behind it to be written, whether a write failed, and whether some
-// input was at fault. Noughts are a buffer of which nothing was said yet.
-const FRONT: usize = 6;
+pub const ROOM: usize = 65536;
 
-const FAILED: usize = 4;
-
-const FAULT: usize = 5;
-
-pub const ROOM: usize = 65542;
-
-// Notes that some input was at fault.
-pub fn faulty(buf: &mut [u8; ROOM]) {
-    buf[FAULT] = 1;
+// What stands at the buffer's front and waits to be written, by its size; whether a write failed, and whether some input
+// was at fault.
+pub struct Output {
+    waiting: usize,
+    pub failed: bool,
+    fault: bool,
 }
 
-// Did every write go through?
-pub fn is_fine(buf: &[u8; ROOM]) -> bool {
-    buf[FAILED] == 0
-}
-
-fn waiting(buf: &[u8]) -> usize {
-    big_endian::u32_at(buf, 0) as usize
-}
-
-// Writes what waits. After a write that failed nothing more is written.
-pub fn flush(buf: &mut [u8; ROOM]) {
-    let n = waiting(buf);
-    if buf[FAILED] == 0 {
-        if !io::write_all(STDOUT_FILENO, part(buf, FRONT, n)) {
-            buf[FAILED] = 1;
+impl Output {
+    // Of which nothing was said yet.
+    pub fn new() -> Output {
+        Output {
+            waiting: 0,
+            failed: false,
+            fault: false,
         }
     }
-    buffers::put_u32(buf, 0, 0);
-}
 
-// Lets more wait; false where there is no room for it.
-fn add(buf: &mut [u8; ROOM], s: &[u8]) -> bool {
-    let n = waiting(buf);
-    let all = plus(n, s.len());
-    if 65536 < all {
-        return false;
+    // Notes that some input was at fault.
+    pub fn faulty(mut self) -> Output {
+        self.fault = true;
+        self
     }
-    buffers::put_bytes(buf, plus(FRONT, n), s);
-    buffers::put_u32(buf, 0, all as u32);
-    true
-}
 
-// What is longer than the whole buffer is written at once.
-fn put_after(buf: &mut [u8; ROOM], s: &[u8]) {
-    flush(buf);
-    if add(buf, s) {
-        return;
-    }
-    if buf[FAILED] == 0 {
-        if !io::write_all(STDOUT_FILENO, s) {
-            buf[FAILED] = 1;
+    // Writes at once. After a write that failed nothing more is written.
+    fn write(mut self, s: &[u8]) -> Output {
+        if !self.failed {
+            self.failed = !io::write_all(STDOUT_FILENO, s);
         }
+        self
     }
-}
 
-pub fn put(buf: &mut [u8; ROOM], s: &[u8]) {
-    if add(buf, s) {
-        return;
+    // Writes what waits.
+    pub fn flush(self, buf: &[u8; ROOM]) -> Output {
+        let mut o = self.write(part(buf, 0, self.waiting));
+        o.waiting = 0;
+        o
     }
-    put_after(buf, s);
-}
 
-// One character.
-pub fn sign(buf: &mut [u8; ROOM], b: u8) {
-    let one = [b];
-    put(buf, &one);
-}
-
-pub fn decimal(buf: &mut [u8; ROOM], n: u64) {
-    let mut digits = [0u8; 20];
-    let k = io::decimal(n, &mut digits);
-    put(buf, &digits[..k]);
-}
-
-// A number's digits and the sign behind them, by one call where there is room for both.
-fn digits_and(buf: &mut [u8; ROOM], digits: &mut [u8; 20], n: u64, behind: u8) {
-    let k = io::decimal(n, digits);
-    if k < 20 {
-        digits[k] = behind;
-        put(buf, part(digits, 0, k + 1));
-        return;
+    // What is longer than the whole buffer is written at once.
+    fn put_after(self, buf: &mut [u8; ROOM], s: &[u8]) -> Output {
+        let mut o = self.flush(buf);
+        if buffers::put_bytes(buf, 0, s) {
+            o.waiting = s.len();
+            return o;
+        }
+        o.write(s)
     }
-    put(buf, digits);
-    sign(buf, behind);
-}
 
-// A number and the sign behind it.
-pub fn number(buf: &mut [u8; ROOM], n: u64, behind: u8) {
-    let mut digits = [0u8; 20];
-    digits_and(buf, &mut digits, n, behind);
-}
-
-// A number in hex, with at least so many digits.
-pub fn word(buf: &mut [u8; ROOM], n: u64, width: usize) {
-    let mut digits = [0u8; 16];
-    let k = io::hex(n, width, &mut digits);
-    put(buf, &digits[..k]);
-}
-
-// The first bytes in hex, up to 128; answers how many.
-fn some_hex(buf: &mut [u8; ROOM], d: &[u8]) -> usize {
-    let mut digits = [0u8; 256];
-    let n = hex::show(d, &mut digits);
-    if 128 < n {
-        return 0;
+    pub fn put(mut self, buf: &mut [u8; ROOM], s: &[u8]) -> Output {
+        let n = self.waiting;
+        if buffers::put_bytes(buf, n, s) {
+            self.waiting = plus(n, s.len());
+            return self;
+        }
+        self.put_after(buf, s)
     }
-    put(buf, &digits[0..n * 2]);
-    n
-}
 
-// Bytes in hex.
-pub fn hex(buf: &mut [u8; ROOM], d: &[u8]) {
-    let mut at = 0;
-    let mut left = d.len();
-    while left > 0 {
-        let n = some_hex(buf, part(d, at, left));
-        if n == 0 {
+    // One character.
+    pub fn sign(self, buf: &mut [u8; ROOM], b: u8) -> Output {
+        let one = [b];
+        self.put(buf, &one)
+    }
+
+    pub fn decimal(self, buf: &mut [u8; ROOM], n: u64) -> Output {
+        let mut digits = [0u8; 20];
+        let k = io::decimal(n, &mut digits);
+        self.put(buf, &digits[..k])
+    }
+
+    // A number's digits and the sign behind them, by one call where there is room for both.
+    fn digits_and(self, buf: &mut [u8; ROOM], digits: &mut [u8; 20], n: u64, behind: u8) -> Output {
+        let k = io::decimal(n, digits);
+        if k < 20 {
+            digits[k] = behind;
+            return self.put(buf, part(digits, 0, k + 1));
+        }
+        self.put(buf, digits).sign(buf, behind)
+    }
+
+    // A number and the sign behind it.
+    pub fn number(self, buf: &mut [u8; ROOM], n: u64, behind: u8) -> Output {
+        let mut digits = [0u8; 20];
+        self.digits_and(buf, &mut digits, n, behind)
+    }
+
+    // A number in hex, with at least so many digits.
+    pub fn word(self, buf: &mut [u8; ROOM], n: u64, width: usize) -> Output {
+        let mut digits = [0u8; 16];
+        let k = io::hex(n, width, &mut digits);
+        self.put(buf, &digits[..k])
+    }
+
+    // Up to 128 bytes in hex.
+    fn some_hex(self, buf: &mut [u8; ROOM], d: &[u8]) -> Output {
+        let mut digits = [0u8; 256];
+        let n = hex::show(d, &mut digits);
+        self.put(buf, part(&digits, 0, plus(n, n)))
+    }
+
+    // Bytes in hex.
+    pub fn hex(self, buf: &mut [u8; ROOM], d: &[u8]) -> Output {
+        let mut o = self;
+        let mut at = 0;
+        while at < d.len() {
+            let left = d.len() - at;
+            if left < 128 {
+                return o.some_hex(buf, part(d, at, left));
+            }
+            o = o.some_hex(buf, part(d, at, 128));
+            at += 128;
+        }
+        o
+    }
+
+    // Writes what is left. A write that failed is told, and the status is 2; else 1 where some input was at fault.
+    pub fn finish(self, buf: &[u8; ROOM]) {
+        let o = self.flush(buf);
+        if o.failed {
+            fail(b"stun: standard output");
             return;
         }
-        if left < n {
-            return;
+        if o.fault {
+            status(1);
         }
-        at = plus(at, n);
-        left -= n;
-    }
-}
-
-// Writes what is left. A write that failed is told, and the status is 2; else 1 where some input was at fault.
-pub fn finish(buf: &mut [u8; ROOM]) {
-    flush(buf);
-    if buf[FAILED] != 0 {
-        fail(b"stun: standard output");
-        return;
-    }
-    if buf[FAULT] != 0 {
-        status(1);
     }
 }

@@ -31,6 +31,14 @@ pub fn part(d: &[u8], at: usize, size: usize) -> &[u8] {
     &d[0..0]
 }
 
+// So many of the first bytes, or all where there are not so many.
+pub fn first(d: &[u8], n: usize) -> &[u8] {
+    if n < d.len() {
+        return &d[0..n];
+    }
+    d
+}
+
 pub fn between(s: &[u8], from: usize, end: usize) -> &[u8] {
     if end < from {
         return part(s, 0, 0);

@@ -4,13 +4,8 @@ use net::Family;
 use read_message::Answer;
 use read_typed::Value;
 use registry::Entry;
+use stun_io::buffered::Output;
 use stun_io::buffered::ROOM;
-use stun_io::buffered::decimal;
-use stun_io::buffered::hex;
-use stun_io::buffered::number;
-use stun_io::buffered::put;
-use stun_io::buffered::sign;
-use stun_io::buffered::word;
 use stun_io::parts::minus;
 use stun_io::parts::part;
 use stun_io::parts::plus;
@@ -27,47 +22,52 @@ pub enum Job {
 }
 
 // CLASS METHOD ID
-fn head(buf: &mut [u8; ROOM], class: MessageClass, method: Method, id: TransactionId) {
+fn head(
+    o: Output,
+    buf: &mut [u8; ROOM],
+    class: MessageClass,
+    method: Method,
+    id: TransactionId,
+) -> Output {
     let bytes = id.bytes;
-    number(buf, class.as_u16() as u64, b' ');
-    number(buf, method.as_u16() as u64, b' ');
-    hex(buf, &bytes);
-    sign(buf, b' ');
+    o.number(buf, class.as_u16() as u64, b' ')
+        .number(buf, method.as_u16() as u64, b' ')
+        .hex(buf, &bytes)
+        .sign(buf, b' ')
 }
 
 fn whole(
+    o: Output,
     buf: &mut [u8; ROOM],
     class: MessageClass,
     method: Method,
     id: TransactionId,
     count: usize,
-) {
-    put(buf, b"whole ");
-    head(buf, class, method, id);
-    decimal(buf, count as u64);
+) -> Output {
+    let o = o.put(buf, b"whole ");
+    head(o, buf, class, method, id).decimal(buf, count as u64)
 }
 
 fn broken(
+    o: Output,
     buf: &mut [u8; ROOM],
     class: MessageClass,
     method: Method,
     id: TransactionId,
     reason: u8,
     place: usize,
-) {
-    put(buf, b"broken ");
-    head(buf, class, method, id);
-    number(buf, reason as u64, b' ');
-    decimal(buf, place as u64);
+) -> Output {
+    let o = o.put(buf, b"broken ");
+    head(o, buf, class, method, id).number(buf, reason as u64, b' ')
+        .decimal(buf, place as u64)
 }
 
 // A word and a number behind it.
-fn told(buf: &mut [u8; ROOM], word: &[u8], n: u64) {
-    put(buf, word);
-    decimal(buf, n);
+fn told(o: Output, buf: &mut [u8; ROOM], word: &[u8], n: u64) -> Output {
+    o.put(buf, word).decimal(buf, n)
 }
 
-fn reading(d: &[u8], buf: &mut [u8; ROOM]) {
+fn reading(d: &[u8], o: Output, buf: &mut [u8; ROOM]) -> Output {
     let r = read_message::read(d);
     let id = r.id;
     let answer = r.answer;
@@ -76,44 +76,53 @@ fn reading(d: &[u8], buf: &mut [u8; ROOM]) {
             class,
             method,
             count,
-        } => whole(buf, class, method, id, count),
+        } => whole(o, buf, class, method, id, count),
         Answer::Broken {
             class,
             method,
             reason,
             place,
-        } => broken(buf, class, method, id, reason, place),
-        Answer::Refused { number } => told(buf, b"refused ", number as u64),
+        } => broken(o, buf, class, method, id, reason, place),
+        Answer::Refused { number } => told(o, buf, b"refused ", number as u64),
     }
 }
 
 // PLACE:TYPE:
-fn named(buf: &mut [u8; ROOM], at: usize, kind: u16) {
-    number(buf, at as u64, b':');
-    word(buf, kind as u64, 4);
-    sign(buf, b':');
+fn named(o: Output, buf: &mut [u8; ROOM], at: usize, kind: u16) -> Output {
+    o.number(buf, at as u64, b':')
+        .word(buf, kind as u64, 4)
+        .sign(buf, b':')
 }
 
 // PLACE:TYPE:VALUEPLACE:SIZE:PADDINGPLACE:PADDINGSIZE
-fn visited(buf: &mut [u8; ROOM], at: usize, kind: u16, value: usize, size: usize, next: usize) {
+fn visited(
+    o: Output,
+    buf: &mut [u8; ROOM],
+    at: usize,
+    kind: u16,
+    value: usize,
+    size: usize,
+    next: usize,
+) -> Output {
     let end = plus(value, size);
-    named(buf, at, kind);
-    number(buf, value as u64, b':');
-    number(buf, size as u64, b':');
-    number(buf, end as u64, b':');
-    number(buf, minus(next, end) as u64, b' ');
+    named(o, buf, at, kind)
+        .number(buf, value as u64, b':')
+        .number(buf, size as u64, b':')
+        .number(buf, end as u64, b':')
+        .number(buf, minus(next, end) as u64, b' ')
 }
 
-fn stopped(w: Walk, buf: &mut [u8; ROOM]) {
+fn stopped(w: Walk, o: Output, buf: &mut [u8; ROOM]) -> Output {
     match w {
-        Walk::End { at } => told(buf, b"end:", at as u64),
-        Walk::Cut { at } => told(buf, b"cut:", at as u64),
-        _ => (),
+        Walk::End { at } => told(o, buf, b"end:", at as u64),
+        Walk::Cut { at } => told(o, buf, b"cut:", at as u64),
+        _ => o,
     }
 }
 
 // The walk from place 20; a datagram has at most 16,383 attributes.
-fn walk(d: &[u8], buf: &mut [u8; ROOM]) {
+fn walk(d: &[u8], o: Output, buf: &mut [u8; ROOM]) -> Output {
+    let mut o = o;
     let mut place = 20;
     let mut left: usize = 16384;
     while left > 0 {
@@ -126,70 +135,75 @@ fn walk(d: &[u8], buf: &mut [u8; ROOM]) {
             next,
         } = w
         else {
-            stopped(w, buf);
-            return;
+            return stopped(w, o, buf);
         };
-        visited(buf, at, kind, value, size, next);
+        o = visited(o, buf, at, kind, value, size, next);
         place = next;
         left -= 1;
     }
+    o
 }
 
-fn address(buf: &mut [u8; ROOM], family: Family, port: u16, ip: [u8; 16]) {
-    put(buf, b"addr=");
-    number(buf, family.as_u8() as u64, b'=');
-    number(buf, port as u64, b'=');
-    hex(buf, part(&ip, 0, family.ip_size()));
+fn address(o: Output, buf: &mut [u8; ROOM], family: Family, port: u16, ip: [u8; 16]) -> Output {
+    o.put(buf, b"addr=")
+        .number(buf, family.as_u8() as u64, b'=')
+        .number(buf, port as u64, b'=')
+        .hex(buf, part(&ip, 0, family.ip_size()))
 }
 
-fn error(buf: &mut [u8; ROOM], code: u16, phrase: &[u8]) {
-    put(buf, b"error=");
-    number(buf, code as u64, b'=');
-    hex(buf, phrase);
+fn error(o: Output, buf: &mut [u8; ROOM], code: u16, phrase: &[u8]) -> Output {
+    o.put(buf, b"error=")
+        .number(buf, code as u64, b'=')
+        .hex(buf, phrase)
 }
 
-fn bytes(buf: &mut [u8; ROOM], s: &[u8]) {
-    put(buf, b"bytes=");
-    hex(buf, s);
+fn bytes(o: Output, buf: &mut [u8; ROOM], s: &[u8]) -> Output {
+    o.put(buf, b"bytes=").hex(buf, s)
 }
 
 // What a value says, by its type.
-fn said(buf: &mut [u8; ROOM], kind: u16, value: &[u8], id: TransactionId) {
+fn said(o: Output, buf: &mut [u8; ROOM], kind: u16, value: &[u8], id: TransactionId) -> Output {
     let t = read_typed::value_of(kind, value, id);
     let ip = t.ip;
     let v = t.value;
     match v {
-        Value::Address { family, port } => address(buf, family, port, ip),
-        Value::Code { code } => error(buf, code, read_typed::part_of(kind, value)),
-        Value::Plain => bytes(buf, read_typed::part_of(kind, value)),
-        Value::Refused { number } => decimal(buf, number as u64),
+        Value::Address { family, port } => address(o, buf, family, port, ip),
+        Value::Code { code } => error(o, buf, code, read_typed::part_of(kind, value)),
+        Value::Plain => bytes(o, buf, read_typed::part_of(kind, value)),
+        Value::Refused { number } => o.decimal(buf, number as u64),
     }
 }
 
-// Nothing for a type that isn't known; a blank parts the values. Has nothing been shown yet?
+// PLACE:TYPE:VALUE, behind a blank but for the first.
 fn shown(
+    o: Output,
     buf: &mut [u8; ROOM],
-    none: bool,
+    first: bool,
     at: usize,
     kind: u16,
     value: &[u8],
     id: TransactionId,
-) -> bool {
-    if let Entry::Unknown = registry::entry_of(kind) {
-        return none;
+) -> Output {
+    let mut o = o;
+    if !first {
+        o = o.sign(buf, b' ');
     }
-    if !none {
-        sign(buf, b' ');
-    }
-    named(buf, at, kind);
-    said(buf, kind, value, id);
-    false
+    o = named(o, buf, at, kind);
+    said(o, buf, kind, value, id)
 }
 
-// PLACE:TYPE:VALUE for each attribute of a known type that the walk from place 20 visits.
-fn values(d: &[u8], buf: &mut [u8; ROOM]) {
+fn is_known(kind: u16) -> bool {
+    if let Entry::Unknown = registry::entry_of(kind) {
+        return false;
+    }
+    true
+}
+
+// Each attribute of a known type that the walk from place 20 visits; a dash where there is none.
+fn values(d: &[u8], o: Output, buf: &mut [u8; ROOM]) -> Output {
     let h = header::header_of(d);
     let id = h.id;
+    let mut o = o;
     let mut none = true;
     let mut place = 20;
     let mut left: usize = 16384;
@@ -204,36 +218,36 @@ fn values(d: &[u8], buf: &mut [u8; ROOM]) {
         } = w
         else {
             if none {
-                sign(buf, b'-');
+                return o.sign(buf, b'-');
             }
-            return;
+            return o;
         };
-        none = shown(buf, none, at, kind, part(d, value, size), id);
+        if is_known(kind) {
+            o = shown(o, buf, none, at, kind, part(d, value, size), id);
+            none = false;
+        }
         place = next;
         left -= 1;
     }
+    o
 }
 
-fn checked(d: &[u8], key: &[u8], buf: &mut [u8; ROOM]) {
-    reading(d, buf);
-    told(
-        buf,
-        b" integrity ",
-        read_integrity::check_integrity(d, key) as u64,
-    );
+fn checked(d: &[u8], key: &[u8], o: Output, buf: &mut [u8; ROOM]) -> Output {
+    let o = reading(d, o, buf);
+    let n = read_integrity::check_integrity(d, key);
+    told(o, buf, b" integrity ", n as u64)
 }
 
-fn asked(d: &[u8], job: Job, key: &[u8], buf: &mut [u8; ROOM]) {
+fn asked(d: &[u8], job: Job, key: &[u8], o: Output, buf: &mut [u8; ROOM]) -> Output {
     match job {
-        Job::Reading => reading(d, buf),
-        Job::Walk => walk(d, buf),
-        Job::Values => values(d, buf),
-        Job::Keyed => checked(d, key, buf),
+        Job::Reading => reading(d, o, buf),
+        Job::Walk => walk(d, o, buf),
+        Job::Values => values(d, o, buf),
+        Job::Keyed => checked(d, key, o, buf),
     }
 }
 
 // The line for a datagram.
-pub fn answer(d: &[u8], job: Job, key: &[u8], buf: &mut [u8; ROOM]) {
-    asked(d, job, key, buf);
-    sign(buf, b'\n');
+pub fn answer(d: &[u8], job: Job, key: &[u8], o: Output, buf: &mut [u8; ROOM]) -> Output {
+    asked(d, job, key, o, buf).sign(buf, b'\n')
 }

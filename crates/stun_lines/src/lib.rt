@@ -7,19 +7,20 @@ use answers::Job;
 use answers::answer;
 use hex::Hex;
 use libc::STDIN_FILENO;
-use stun_io::buffered;
+use stun_io::buffered::Output;
 use stun_io::buffered::ROOM;
-use stun_io::buffered::faulty;
-use stun_io::buffered::put;
 use stun_io::errors::complain;
 use stun_io::errors::complain_column;
 use stun_io::errors::complain_number;
+use stun_io::input::Got;
 use stun_io::input::MOST;
 use stun_io::input::read_behind;
 use stun_io::parts::between;
 use stun_io::parts::find;
+use stun_io::parts::first;
 use stun_io::parts::move_down;
 use stun_io::parts::part;
+use stun_io::parts::plus;
 use stun_io::parts::plus_u64;
 use stun_io::words::is_comment;
 
@@ -28,7 +29,8 @@ const INPUT: usize = 131328;
 
 // Where reading stands: how much of the input is kept, where its next line starts, and how many lines are past and were
 // answered. Of a line that is longer than the input buffer, how many characters are past (0: there is no such line), the
-// column of the first that is no digit (0: none so far), and whether that one is a carriage return.
+// column of the first that is no digit (0: none so far), and whether that one is a carriage return. Last, how the output
+// stands.
 struct State {
     go: bool,
     have: usize,
@@ -38,19 +40,19 @@ struct State {
     seen: u64,
     bad: u64,
     cr: bool,
+    out: Output,
 }
 
 // The answer to a line that is no hex: by the column of the first character that is no digit, or 0 where the digits are an
 // odd number.
-fn bad_line(line: u64, column: u64, buf: &mut [u8; ROOM]) {
+fn bad_line(line: u64, column: u64, o: Output, buf: &mut [u8; ROOM]) -> Output {
     complain_number(b"stun: line ", line);
     if column == 0 {
         complain(b": an odd number of hex digits\n");
     } else {
         complain_column(column);
     }
-    faulty(buf);
-    put(buf, b"?\n");
+    o.faulty().put(buf, b"?\n")
 }
 
 // A line's size without the carriage return of a line end of two characters.
@@ -65,21 +67,21 @@ fn without_return(s: &[u8]) -> usize {
     s.len()
 }
 
-// So many of the first bytes, or all where there are not so many.
-fn first(d: &[u8], n: usize) -> &[u8] {
-    if n < d.len() {
-        return &d[0..n];
-    }
-    d
-}
-
 // One line, without its end.
-fn one(s: &[u8], line: u64, job: Job, key: &[u8], raw: &mut [u8; MOST], buf: &mut [u8; ROOM]) {
+fn one(
+    s: &[u8],
+    line: u64,
+    job: Job,
+    key: &[u8],
+    raw: &mut [u8; MOST],
+    o: Output,
+    buf: &mut [u8; ROOM],
+) -> Output {
     let h = hex::unhex(part(s, 0, without_return(s)), raw);
     match h {
-        Hex::Bytes(size) => answer(first(raw, size), job, key, buf),
-        Hex::Bad(p) => bad_line(line, plus_u64(p as u64, 1), buf),
-        Hex::Odd => bad_line(line, 0, buf),
+        Hex::Bytes(size) => answer(first(raw, size), job, key, o, buf),
+        Hex::Bad(p) => bad_line(line, plus_u64(p as u64, 1), o, buf),
+        Hex::Odd => bad_line(line, 0, o, buf),
     }
 }
 
@@ -97,32 +99,38 @@ fn more(c: State, s: &[u8]) -> State {
     c
 }
 
-fn end_digits(digits: u64, line: u64, job: Job, key: &[u8], raw: &[u8], buf: &mut [u8; ROOM]) {
+fn end_digits(
+    digits: u64,
+    line: u64,
+    job: Job,
+    key: &[u8],
+    raw: &[u8],
+    o: Output,
+    buf: &mut [u8; ROOM],
+) -> Output {
     if digits % 2 != 0 {
-        bad_line(line, 0, buf);
-        return;
+        return bad_line(line, 0, o, buf);
     }
-    answer(raw, job, key, buf);
+    answer(raw, job, key, o, buf)
 }
 
 // Where a carriage return is all that is bad, and the last character, it is of the line's end.
-fn end_long(c: State, line: u64, job: Job, key: &[u8], raw: &[u8], buf: &mut [u8; ROOM]) {
+fn end_long(c: State, line: u64, job: Job, key: &[u8], raw: &[u8], buf: &mut [u8; ROOM]) -> Output {
+    let o = c.out;
     let bad = c.bad;
     if bad == 0 {
-        end_digits(c.seen, line, job, key, raw, buf);
-        return;
+        return end_digits(c.seen, line, job, key, raw, o, buf);
     }
     if c.cr {
         if bad == c.seen {
-            end_digits(bad - 1, line, job, key, raw, buf);
-            return;
+            return end_digits(bad - 1, line, job, key, raw, o, buf);
         }
     }
-    bad_line(line, bad, buf);
+    bad_line(line, bad, o, buf)
 }
 
 // A line has ended, and the next one starts at a place.
-fn past(c: State, from: usize, done: u64) -> State {
+fn past(c: State, from: usize, done: u64, out: Output) -> State {
     State {
         go: true,
         have: 0,
@@ -132,6 +140,7 @@ fn past(c: State, from: usize, done: u64) -> State {
         seen: 0,
         bad: 0,
         cr: false,
+        out,
     }
 }
 
@@ -145,16 +154,18 @@ fn ended(
     raw: &mut [u8; MOST],
     buf: &mut [u8; ROOM],
 ) -> State {
+    let o = c.out;
     let line = plus_u64(c.line, 1);
+    let done = plus_u64(c.done, 1);
     if c.seen > 0 {
-        end_long(more(c, t), line, job, key, raw, buf);
-        return past(c, from, plus_u64(c.done, 1));
+        let o = end_long(more(c, t), line, job, key, raw, buf);
+        return past(c, from, done, o);
     }
     if is_comment(t) {
-        return past(c, from, c.done);
+        return past(c, from, c.done, o);
     }
-    one(t, line, job, key, raw, buf);
-    past(c, from, plus_u64(c.done, 1))
+    let o = one(t, line, job, key, raw, o, buf);
+    past(c, from, done, o)
 }
 
 // The lines that end in s.
@@ -170,11 +181,20 @@ fn lines(
     let mut left = s.len();
     while left > 0 {
         let from = c.from;
-        let e = find(s, from, 10);
-        if s.len() <= e {
+        let rest = between(s, from, s.len());
+        let size = find(rest, 0, 10);
+        if rest.len() <= size {
             return c;
         }
-        c = ended(between(s, from, e), c, e + 1, job, key, raw, buf);
+        c = ended(
+            part(rest, 0, size),
+            c,
+            plus(plus(from, size), 1),
+            job,
+            key,
+            raw,
+            buf,
+        );
         left -= 1;
     }
     c
@@ -249,14 +269,17 @@ fn turn(
     raw: &mut [u8; MOST],
     buf: &mut [u8; ROOM],
 ) -> State {
-    let end = read_behind(STDIN_FILENO, b"standard input", input, c.have);
-    if end == c.have {
-        return last(c, input, job, key, raw, buf);
+    let got = read_behind(STDIN_FILENO, b"standard input", input, c.have);
+    match got {
+        Got::Upto(end) => filled(c, input, end, job, key, raw, buf),
+        Got::End => last(c, input, job, key, raw, buf),
+        Got::Failed => stopped(c),
     }
-    if INPUT < end {
-        return stopped(c);
-    }
-    filled(c, input, end, job, key, raw, buf)
+}
+
+fn goes_on(c: State) -> bool {
+    let o = c.out;
+    c.go && !o.failed
 }
 
 // All of standard input, as long as the answers can be written.
@@ -271,15 +294,17 @@ fn all(job: Job, key: &[u8], input: &mut [u8; INPUT], raw: &mut [u8; MOST], buf:
         seen: 0,
         bad: 0,
         cr: false,
+        out: Output::new(),
     };
     let mut left = u64::MAX;
-    while left > 0 && c.go && buffered::is_fine(buf) {
+    while left > 0 && goes_on(c) {
         c = turn(c, input, job, key, raw, buf);
         w = progress::tick(w, c.done);
         left -= 1;
     }
     progress::end(w, c.done);
-    buffered::finish(buf);
+    let o = c.out;
+    o.finish(buf);
 }
 
 pub fn run(job: Job, key: &[u8]) {

@@ -1,4 +1,5 @@
-// stun read and stun check: one datagram shown for a person, and whether its signature is good. Each line but the first stands behind a line end.
+// stun read and stun check: one datagram shown for a person, and whether its signature is good. Each line but the
+// first stands behind a line end.
 ghost use mathlib.Core.Path.{_≡_};
 ghost use Prim.Native.Nat.{min};
 ghost use Rattle.registry.specs.Rows.{rfc5389};
@@ -19,6 +20,7 @@ use page::named;
 use page::number;
 use read_message::Answer;
 use stun_file::Form;
+use stun_file::Found;
 use stun_io::errors::status;
 use stun_io::input::MOST;
 use stun_io::parts::minus;
@@ -225,9 +227,9 @@ fn datagram(d: &[u8], total: u64, colour: bool) -> u8
 pub fn read(path: &[u8], form: Form) {
     let mut raw = [0u8; MOST];
     let f = stun_file::datagram(path, form, &mut raw);
-    if f.good {
+    if let Found::Datagram { size, total } = f {
         let colour = libc::isatty(STDOUT_FILENO) == 1;
-        status(datagram(part(&raw, 0, f.size), f.total, colour));
+        status(datagram(part(&raw, 0, size), total, colour));
     }
 }
 
@@ -246,7 +248,7 @@ fn check_datagram(d: &[u8], key: &[u8]) -> u8
 pub fn check(path: &[u8], key: &[u8]) {
     let mut raw = [0u8; MOST];
     let f = stun_file::datagram(path, Form::Told, &mut raw);
-    if f.good {
-        status(check_datagram(part(&raw, 0, f.size), key));
+    if let Found::Datagram { size, total: _ } = f {
+        status(check_datagram(part(&raw, 0, size), key));
     }
 }

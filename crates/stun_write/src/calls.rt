@@ -1,27 +1,9 @@
 // The calls of a script: each takes its fields, makes one call of the library and says what came of it.
-use crate::expected::ADDRESS_TYPE;
-use crate::expected::BYTES;
-use crate::expected::CALL;
-use crate::expected::CLASS;
-use crate::expected::CODE;
-use crate::expected::END;
-use crate::expected::FAMILY;
-use crate::expected::ID;
-use crate::expected::IP;
-use crate::expected::METHOD;
-use crate::expected::NOTHING;
-use crate::expected::PADDING;
-use crate::expected::PORT;
-use crate::expected::SIZE;
-use crate::expected::TEXT_TYPE;
-use crate::expected::TYPE;
-use crate::expected::TYPES;
-use crate::expected::VALUE;
+use crate::expected::Wanted;
 use crate::fields::bytes_of;
 use crate::fields::field;
 use crate::fields::low;
 use crate::fields::types_of;
-use crate::kinds::class_of;
 use crate::kinds::is_address;
 use crate::kinds::is_text;
 use digits::Number;
@@ -33,6 +15,7 @@ use stun_io::words::is_comment;
 use stun_io::words::position;
 use wire::method::Method;
 use wire::transaction_id::TransactionId;
+use wire::types::class_numbered;
 use write_begin::Written;
 
 // As many characters as a line has at most, and as many bytes as a buffer has.
@@ -43,30 +26,80 @@ pub const LARGEST: usize = 131072;
 // As many fields as a call has at most, and the end behind them.
 const FIELDS: usize = 5;
 
+enum Call {
+    Show,
+    Dump,
+    Buffer,
+    Load,
+    Begin,
+    Raw,
+    Address,
+    Text,
+    Error,
+    Types,
+    Integrity,
+    Fingerprint,
+    Unknown,
+}
+
 // What a line comes to; Message and Buffer are to be shown.
 pub enum Said {
     Nothing,
     Size(usize),
     Total(usize),
     Refused(u8),
-    Expected(usize),
+    Expected(Wanted),
     Message,
     Buffer,
 }
 
-// What each field of a call is to be, by the call's number.
-fn fields_of(call: usize) -> [usize; FIELDS] {
+fn call_of(word: &[u8]) -> Call {
+    let n = position(
+        word,
+        b"show dump buffer load begin raw address text error types integrity fingerprint",
+    );
+    match n {
+        0 => Call::Show,
+        1 => Call::Dump,
+        2 => Call::Buffer,
+        3 => Call::Load,
+        4 => Call::Begin,
+        5 => Call::Raw,
+        6 => Call::Address,
+        7 => Call::Text,
+        8 => Call::Error,
+        9 => Call::Types,
+        10 => Call::Integrity,
+        11 => Call::Fingerprint,
+        _ => Call::Unknown,
+    }
+}
+
+// What each field of a call is to be.
+fn fields_of(call: Call) -> [Wanted; FIELDS] {
+    let end = Wanted::End;
     match call {
-        2 => [SIZE, END, END, END, END],
-        4 => [CLASS, METHOD, ID, END, END],
-        5 => [TYPE, VALUE, PADDING, END, END],
-        6 => [ADDRESS_TYPE, FAMILY, PORT, IP, END],
-        7 => [TEXT_TYPE, BYTES, END, END, END],
-        8 => [CODE, BYTES, END, END, END],
-        9 => [TYPES, END, END, END, END],
-        10 => [BYTES, END, END, END, END],
-        12 => [CALL, END, END, END, END],
-        _ => [END, END, END, END, END],
+        Call::Buffer => [Wanted::Size, end, end, end, end],
+        Call::Begin => [Wanted::Class, Wanted::Method, Wanted::Id, end, end],
+        Call::Raw => [
+            Wanted::AttributeType,
+            Wanted::Value,
+            Wanted::Padding,
+            end,
+            end,
+        ],
+        Call::Address => [
+            Wanted::AddressType,
+            Wanted::Family,
+            Wanted::Port,
+            Wanted::Ip,
+            end,
+        ],
+        Call::Text => [Wanted::TextType, Wanted::Bytes, end, end, end],
+        Call::Error => [Wanted::Code, Wanted::Bytes, end, end, end],
+        Call::Types => [Wanted::Types, end, end, end, end],
+        Call::Integrity => [Wanted::Bytes, end, end, end, end],
+        _ => [end, end, end, end, end],
     }
 }
 
@@ -86,34 +119,32 @@ fn bytes_at(t: &[u8], bytes: &mut [u8], at: u64) -> Number {
 }
 
 // A field's number, or the size of its bytes, which go to the front or, as padding, behind those of the field before.
-fn number_of(t: &[u8], wanted: usize, before: u64, bytes: &mut [u8; LONGEST]) -> Number {
+fn number_of(t: &[u8], wanted: Wanted, before: u64, bytes: &mut [u8; LONGEST]) -> Number {
     match wanted {
-        END => Number::Is(t.len() as u64),
-        PADDING => bytes_at(t, bytes, before),
-        ID | VALUE | IP | BYTES => bytes_at(t, bytes, 0),
-        TYPES => size_of(types_of(t, bytes)),
+        Wanted::End => Number::Is(t.len() as u64),
+        Wanted::Padding => bytes_at(t, bytes, before),
+        Wanted::Id | Wanted::Value | Wanted::Ip | Wanted::Bytes => bytes_at(t, bytes, 0),
+        Wanted::Types => size_of(types_of(t, bytes)),
         _ => digits::number_of(t),
     }
 }
 
 // Is a number, or a size, as wanted?
-fn fits(n: u64, wanted: usize) -> bool {
+fn fits(n: u64, wanted: Wanted) -> bool {
     match wanted {
-        CALL => false,
-        END => n == 0,
-        SIZE => n <= 131072,
-        CLASS => class_of(n).as_u16() as u64 == n,
-        ID => n == 12,
-        TYPE | PORT => n <= 65535,
-        ADDRESS_TYPE => n <= 65535 && is_address(low(n)),
-        TEXT_TYPE => n <= 65535 && is_text(low(n)),
+        Wanted::End => n == 0,
+        Wanted::Size => n <= 131072,
+        Wanted::Class => n <= 3,
+        Wanted::Id => n == 12,
+        Wanted::AttributeType | Wanted::Port => n <= 65535,
+        Wanted::AddressType => n <= 65535 && is_address(low(n)),
+        Wanted::TextType => n <= 65535 && is_text(low(n)),
         _ => true,
     }
 }
 
-// What was wanted and isn't there, and the number or the size that each field says.
-struct Taken {
-    wanted: usize,
+// The number or the size that each field says.
+struct Fields {
     first: u64,
     second: u64,
     third: u64,
@@ -121,29 +152,26 @@ struct Taken {
     last: u64,
 }
 
+// The fields of a call, or what was wanted and isn't there.
+enum Taken {
+    Whole(Fields),
+    Lacks(Wanted),
+}
+
 // With what the next field says: it is the last then, and the others move on, so that all are in their places in the end.
-fn with(t: Taken, n: Number, wanted: usize) -> Taken {
-    let mut t = t;
-    if let Number::Is(k) = n {
-        if fits(k, wanted) {
-            return Taken {
-                wanted: NOTHING,
-                first: t.second,
-                second: t.third,
-                third: t.fourth,
-                fourth: t.last,
-                last: k,
-            };
-        }
+fn with(t: Fields, n: u64) -> Fields {
+    Fields {
+        first: t.second,
+        second: t.third,
+        third: t.fourth,
+        fourth: t.last,
+        last: n,
     }
-    t.wanted = wanted;
-    t
 }
 
 // The fields of a line; their bytes go to `bytes`.
-fn take(s: &[u8], wanted: [usize; FIELDS], bytes: &mut [u8; LONGEST]) -> Taken {
-    let mut t = Taken {
-        wanted: NOTHING,
+fn take(s: &[u8], wanted: [Wanted; FIELDS], bytes: &mut [u8; LONGEST]) -> Taken {
+    let mut t = Fields {
         first: 0,
         second: 0,
         third: 0,
@@ -153,22 +181,25 @@ fn take(s: &[u8], wanted: [usize; FIELDS], bytes: &mut [u8; LONGEST]) -> Taken {
     let mut i = 0;
     while i < FIELDS {
         let w = wanted[i];
-        t = with(t, number_of(field(s, i + 1), w, t.last, bytes), w);
-        if t.wanted != NOTHING {
-            return t;
+        let Number::Is(n) = number_of(field(s, i + 1), w, t.last, bytes) else {
+            return Taken::Lacks(w);
+        };
+        if !fits(n, w) {
+            return Taken::Lacks(w);
         }
+        t = with(t, n);
         i += 1;
     }
-    t
+    Taken::Whole(t)
 }
 
 // begin CLASS METHOD ID
-fn begun(t: Taken, bytes: &[u8], message: &mut [u8]) -> Written {
+fn begun(t: Fields, bytes: &[u8], message: &mut [u8]) -> Written {
     let mut id = [0u8; 12];
     buffers::put_bytes(&mut id, 0, part(bytes, 0, 12));
     write_begin::begin(
         message,
-        class_of(t.first),
+        class_numbered(low(t.first)),
         Method {
             code: low(t.second),
         },
@@ -177,7 +208,7 @@ fn begun(t: Taken, bytes: &[u8], message: &mut [u8]) -> Written {
 }
 
 // raw TYPE VALUE PADDING
-fn raw(t: Taken, bytes: &[u8], message: &mut [u8]) -> Written {
+fn raw(t: Fields, bytes: &[u8], message: &mut [u8]) -> Written {
     let n = t.second as usize;
     let padding = part(bytes, n, t.third as usize);
     write_raw::append_raw(message, low(t.first), part(bytes, 0, n), padding)
@@ -211,35 +242,37 @@ fn addressed(kind: u16, family: u64, port: u16, ip: &[u8], message: &mut [u8]) -
 }
 
 // address TYPE FAMILY PORT IPHEX
-fn address(t: Taken, bytes: &[u8], message: &mut [u8]) -> Written {
+fn address(t: Fields, bytes: &[u8], message: &mut [u8]) -> Written {
     let ip = part(bytes, 0, t.fourth as usize);
     addressed(low(t.first), t.second, low(t.third), ip, message)
 }
 
 // text TYPE HEX, error CODE HEX, types T,T,.., integrity HEX and fingerprint, with the bytes of the last field
-fn added(call: usize, first: u64, last: &[u8], message: &mut [u8]) -> Written {
+fn added(call: Call, first: u64, last: &[u8], message: &mut [u8]) -> Written {
     match call {
-        7 => write_typed::append_text(message, low(first), last),
-        8 => write_error_code::append_error_code(message, low(first), last),
-        9 => write_typed::append_unknown_attributes(message, last),
-        10 => write_close::append_message_integrity(message, last),
+        Call::Text => write_typed::append_text(message, low(first), last),
+        Call::Error => write_error_code::append_error_code(message, low(first), last),
+        Call::Types => write_typed::append_unknown_attributes(message, last),
+        Call::Integrity => write_close::append_message_integrity(message, last),
         _ => write_close::append_fingerprint(message),
     }
 }
 
-// The calls on a message, by their numbers.
-fn made(call: usize, t: Taken, bytes: &[u8], message: &mut [u8]) -> Written {
+// The calls on a message.
+fn made(call: Call, t: Fields, bytes: &[u8], message: &mut [u8]) -> Written {
     match call {
-        4 => begun(t, bytes, message),
-        5 => raw(t, bytes, message),
-        6 => address(t, bytes, message),
-        7 | 8 => added(call, t.first, part(bytes, 0, t.second as usize), message),
+        Call::Begin => begun(t, bytes, message),
+        Call::Raw => raw(t, bytes, message),
+        Call::Address => address(t, bytes, message),
+        Call::Text | Call::Error => {
+            added(call, t.first, part(bytes, 0, t.second as usize), message)
+        }
         _ => added(call, t.first, part(bytes, 0, t.first as usize), message),
     }
 }
 
 // What comes of a call on a message; the buffer is the first bytes of the store, so many.
-fn written(call: usize, t: Taken, size: usize, bytes: &[u8], store: &mut [u8]) -> Said {
+fn written(call: Call, t: Fields, size: usize, bytes: &[u8], store: &mut [u8]) -> Said {
     if store.len() < size {
         return Said::Nothing;
     }
@@ -263,35 +296,38 @@ fn sized(n: u64, store: &mut [u8]) -> Said {
 // load HEX
 fn loaded(s: &[u8], store: &mut [u8]) -> Said {
     if field(s, 2).len() > 0 {
-        return Said::Expected(END);
+        return Said::Expected(Wanted::End);
     }
     let Hex::Bytes(n) = bytes_of(field(s, 1), store) else {
-        return Said::Expected(BYTES);
+        return Said::Expected(Wanted::Bytes);
     };
     if store.len() < n {
-        return Said::Expected(SIZE);
+        return Said::Expected(Wanted::Size);
     }
     Said::Size(n)
 }
 
-// A call's number is its place in this list.
-fn call_of(word: &[u8]) -> usize {
-    position(
-        word,
-        b"show dump buffer load begin raw address text error types integrity fingerprint",
-    )
+// What comes of a call whose fields were taken.
+fn called(call: Call, t: Fields, size: usize, bytes: &[u8], store: &mut [u8; LARGEST]) -> Said {
+    match call {
+        Call::Show => Said::Message,
+        Call::Dump => Said::Buffer,
+        Call::Buffer => sized(t.first, store),
+        _ => written(call, t, size, bytes, store),
+    }
 }
 
-// What comes of a call whose fields were taken.
-fn called(call: usize, t: Taken, size: usize, bytes: &[u8], store: &mut [u8; LARGEST]) -> Said {
-    if t.wanted != NOTHING {
-        return Said::Expected(t.wanted);
-    }
-    match call {
-        0 => Said::Message,
-        1 => Said::Buffer,
-        2 => sized(t.first, store),
-        _ => written(call, t, size, bytes, store),
+fn with_fields(
+    call: Call,
+    s: &[u8],
+    size: usize,
+    bytes: &mut [u8; LONGEST],
+    store: &mut [u8; LARGEST],
+) -> Said {
+    let t = take(s, fields_of(call), bytes);
+    match t {
+        Taken::Whole(fields) => called(call, fields, size, bytes, store),
+        Taken::Lacks(wanted) => Said::Expected(wanted),
     }
 }
 
@@ -302,9 +338,9 @@ pub fn one(s: &[u8], size: usize, bytes: &mut [u8; LONGEST], store: &mut [u8; LA
         return Said::Nothing;
     }
     let call = call_of(word);
-    if call == 3 {
-        return loaded(s, store);
+    match call {
+        Call::Unknown => Said::Expected(Wanted::Call),
+        Call::Load => loaded(s, store),
+        _ => with_fields(call, s, size, bytes, store),
     }
-    let t = take(s, fields_of(call), bytes);
-    called(call, t, size, bytes, store)
 }

@@ -1,52 +1,68 @@
-// What a script's line was expected to have, where it is no call: each by the place of its line in the text below.
+// What a script's line was expected to have, where it is no call.
+use stun_io::buffered::Output;
 use stun_io::buffered::ROOM;
-use stun_io::buffered::faulty;
-use stun_io::buffered::put;
-use stun_io::buffered::sign;
 use stun_io::parts::between;
 use stun_io::parts::find;
+use stun_io::parts::plus;
 
-// All that was wanted is there.
-pub const NOTHING: usize = usize::MAX;
+pub enum Wanted {
+    Call,
+    Line,
+    End,
+    Size,
+    Class,
+    Method,
+    Id,
+    AttributeType,
+    AddressType,
+    TextType,
+    Family,
+    Port,
+    Ip,
+    Value,
+    Padding,
+    Code,
+    Bytes,
+    Types,
+}
 
-pub const CALL: usize = 0;
+// The number of its line in the text below.
+fn line_of(wanted: Wanted) -> usize {
+    match wanted {
+        Wanted::Call => 0,
+        Wanted::Line => 1,
+        Wanted::End => 2,
+        Wanted::Size => 3,
+        Wanted::Class => 4,
+        Wanted::Method => 5,
+        Wanted::Id => 6,
+        Wanted::AttributeType => 7,
+        Wanted::AddressType => 8,
+        Wanted::TextType => 9,
+        Wanted::Family => 10,
+        Wanted::Port => 11,
+        Wanted::Ip => 12,
+        Wanted::Value => 13,
+        Wanted::Padding => 14,
+        Wanted::Code => 15,
+        Wanted::Bytes => 16,
+        Wanted::Types => 17,
+    }
+}
 
-pub const LINE: usize = 100;
-
-pub const END: usize = 136;
-
-pub const SIZE: usize = 156;
-
-pub const CLASS: usize = 176;
-
-pub const METHOD: usize = 192;
-
-pub const ID: usize = 212;
-
-pub const TYPE: usize = 235;
-
-pub const ADDRESS_TYPE: usize = 271;
-
-pub const TEXT_TYPE: usize = 359;
-
-pub const FAMILY: usize = 428;
-
-pub const PORT: usize = 445;
-
-pub const IP: usize = 464;
-
-pub const VALUE: usize = 505;
-
-pub const PADDING: usize = 548;
-
-pub const CODE: usize = 591;
-
-pub const BYTES: usize = 610;
-
-pub const TYPES: usize = 644;
+// A line by its number, counted from 0.
+fn line(s: &[u8], number: usize) -> &[u8] {
+    let mut from = 0;
+    let mut left = number;
+    while left > 0 {
+        from = plus(find(s, from, b'\n'), 1);
+        left -= 1;
+    }
+    between(s, from, find(s, from, b'\n'))
+}
 
 // The answer to a line that is no call.
-pub fn put_wanted(wanted: usize, buf: &mut [u8; ROOM]) {
+pub fn put_wanted(wanted: Wanted, o: Output, buf: &mut [u8; ROOM]) -> Output {
     let s: &[u8] =
         b"a call: buffer, load, begin, raw, address, text, error, types, integrity, fingerprint, show or dump\n\
         a line of at most 262143 characters\n\
@@ -66,8 +82,8 @@ pub fn put_wanted(wanted: usize, buf: &mut [u8; ROOM]) {
         a code, 300 to 699\n\
         two hex digits a byte, - for none\n\
         types parted by commas, - for none\n";
-    faulty(buf);
-    put(buf, b"? expected ");
-    put(buf, between(s, wanted, find(s, wanted, 10)));
-    sign(buf, b'\n');
+    o.faulty()
+        .put(buf, b"? expected ")
+        .put(buf, line(s, line_of(wanted)))
+        .sign(buf, b'\n')
 }

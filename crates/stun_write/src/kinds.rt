@@ -1,16 +1,5 @@
-// The library's classes by their numbers, and whether a type has a rule.
+// Whether a type has a rule that a call asks for.
 use registry::Rule;
-use wire::types::MessageClass;
-
-// What is no such number is taken for the last, whose number is another then.
-pub fn class_of(n: u64) -> MessageClass {
-    match n {
-        0 => MessageClass::Request,
-        1 => MessageClass::Indication,
-        2 => MessageClass::SuccessResponse,
-        _ => MessageClass::ErrorResponse,
-    }
-}
 
 pub fn is_address(kind: u16) -> bool {
     let rule = registry::entry_rule(registry::entry_of(kind));

@@ -10,17 +10,12 @@ use calls::LARGEST;
 use calls::LONGEST;
 use calls::Said;
 use calls::one;
-use expected::LINE;
+use expected::Wanted;
 use expected::put_wanted;
 use header::Head;
 use script::Line;
-use stun_io::buffered;
+use stun_io::buffered::Output;
 use stun_io::buffered::ROOM;
-use stun_io::buffered::faulty;
-use stun_io::buffered::hex;
-use stun_io::buffered::number;
-use stun_io::buffered::put;
-use stun_io::buffered::sign;
 use stun_io::parts::between;
 use stun_io::parts::part;
 
@@ -38,40 +33,36 @@ fn message_of(buffer: &[u8]) -> &[u8] {
     }
 }
 
-fn ok(n: usize, buf: &mut [u8; ROOM]) {
-    put(buf, b"ok ");
-    number(buf, n as u64, b'\n');
+fn ok(n: usize, o: Output, buf: &mut [u8; ROOM]) -> Output {
+    o.put(buf, b"ok ").number(buf, n as u64, b'\n')
 }
 
-fn no(n: u8, buf: &mut [u8; ROOM]) {
-    faulty(buf);
-    put(buf, b"no ");
-    number(buf, n as u64, b'\n');
+fn no(n: u8, o: Output, buf: &mut [u8; ROOM]) -> Output {
+    o.faulty().put(buf, b"no ").number(buf, n as u64, b'\n')
 }
 
-fn shown(d: &[u8], buf: &mut [u8; ROOM]) {
+fn shown(d: &[u8], o: Output, buf: &mut [u8; ROOM]) -> Output {
     if d.len() == 0 {
-        sign(buf, b'-');
+        return o.put(buf, b"-\n");
     }
-    hex(buf, d);
-    sign(buf, b'\n');
+    o.hex(buf, d).sign(buf, b'\n')
 }
 
-fn answered(what: Said, buf: &mut [u8; ROOM]) {
+fn answered(what: Said, o: Output, buf: &mut [u8; ROOM]) -> Output {
     match what {
-        Said::Size(n) => ok(n, buf),
-        Said::Total(n) => ok(n, buf),
-        Said::Refused(n) => no(n, buf),
-        Said::Expected(w) => put_wanted(w, buf),
-        _ => (),
+        Said::Size(n) => ok(n, o, buf),
+        Said::Total(n) => ok(n, o, buf),
+        Said::Refused(n) => no(n, o, buf),
+        Said::Expected(w) => put_wanted(w, o, buf),
+        _ => o,
     }
 }
 
-fn tell(what: Said, buffer: &[u8], buf: &mut [u8; ROOM]) {
+fn tell(what: Said, buffer: &[u8], o: Output, buf: &mut [u8; ROOM]) -> Output {
     match what {
-        Said::Message => shown(message_of(buffer), buf),
-        Said::Buffer => shown(buffer, buf),
-        _ => answered(what, buf),
+        Said::Message => shown(message_of(buffer), o, buf),
+        Said::Buffer => shown(buffer, o, buf),
+        _ => answered(what, o, buf),
     }
 }
 
@@ -83,31 +74,50 @@ fn said(
     store: &mut [u8; LARGEST],
 ) -> Said {
     if f.long {
-        return Said::Expected(LINE);
+        return Said::Expected(Wanted::Line);
     }
     one(between(input, f.start, f.end), size, bytes, store)
 }
 
-// A line, and how large the buffer is behind it. Answers are written when no further line is at hand, so that a person can
-// go on.
+// Answers are written when no further line is at hand, so that a person can go on.
+fn told(f: Line, what: Said, buffer: &[u8], o: Output, buf: &mut [u8; ROOM]) -> Output {
+    let o = tell(what, buffer, o, buf);
+    if script::idle(f) {
+        return o.flush(buf);
+    }
+    o
+}
+
+// How large the buffer is, and what was written.
+struct State {
+    size: usize,
+    out: Output,
+}
+
+// A line.
 fn answer(
     f: Line,
     input: &[u8],
-    size: usize,
+    c: State,
     bytes: &mut [u8; LONGEST],
     store: &mut [u8; LARGEST],
     buf: &mut [u8; ROOM],
-) -> usize {
-    let what = said(f, input, size, bytes, store);
-    let now = match what {
+) -> State {
+    let what = said(f, input, c.size, bytes, store);
+    let size = match what {
         Said::Size(n) => n,
-        _ => size,
+        _ => c.size,
     };
-    tell(what, part(store, 0, now), buf);
-    if script::idle(f) {
-        buffered::flush(buf);
+    let o = c.out;
+    State {
+        size,
+        out: told(f, what, part(store, 0, size), o, buf),
     }
-    now
+}
+
+fn goes_on(c: State) -> bool {
+    let o = c.out;
+    !o.failed
 }
 
 // All of standard input, as long as the answers can be written.
@@ -118,17 +128,21 @@ fn all(
     buf: &mut [u8; ROOM],
 ) {
     let mut f = script::at_start();
-    let mut size = 65552;
+    let mut c = State {
+        size: 65552,
+        out: Output::new(),
+    };
     let mut left = u64::MAX;
-    while left > 0 && buffered::is_fine(buf) {
+    while left > 0 && goes_on(c) {
         f = script::next(f, input);
         if !f.on {
             break;
         }
-        size = answer(f, input, size, bytes, store, buf);
+        c = answer(f, input, c, bytes, store, buf);
         left -= 1;
     }
-    buffered::finish(buf);
+    let o = c.out;
+    o.finish(buf);
 }
 
 // The longest line has 262,143 characters, so no field says more than 262,144 bytes and no `load` more than 131,072.

@@ -1,5 +1,6 @@
 // The lines of a script, which is standard input.
 use libc::STDIN_FILENO;
+use stun_io::input::Got;
 use stun_io::input::read_behind;
 use stun_io::parts::find;
 use stun_io::parts::move_down;
@@ -82,14 +83,12 @@ fn more(f: Line, have: usize, input: &mut [u8]) -> Line {
     if input.len() <= have {
         return overlong(f, input);
     }
-    let end = read_behind(STDIN_FILENO, b"standard input", input, have);
-    if end == have {
-        return last(f, have);
+    let got = read_behind(STDIN_FILENO, b"standard input", input, have);
+    match got {
+        Got::Upto(end) => waiting(f.long, 0, end),
+        Got::End => last(f, have),
+        Got::Failed => over(),
     }
-    if input.len() < end {
-        return over();
-    }
-    waiting(f.long, 0, end)
 }
 
 // Takes the line that starts where the last one ended, or reads for its end.

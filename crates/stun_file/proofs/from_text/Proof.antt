@@ -1,8 +1,8 @@
 use mathlib.Core.Path.{_≡_}
 use lib.ListN.{length}
 use borrow.Author.Needs.{needs}
-use Rattle.stun_file.proofs.all_text.Statement.{statement}
-use Rattle.stun_file.proofs.all_text.Tie as tie
+use Rattle.stun_file.proofs.from_text.Statement.{statement}
+use Rattle.stun_file.proofs.from_text.Tie as tie
 
 abbrev Inv-loop : tie.InvT-loop
 Inv-loop fd name have file₀ raw₀ g₀ n₀ left₀ file raw g n left = length raw ≡ length raw₀
@@ -10,8 +10,8 @@ Inv-loop fd name have file₀ raw₀ g₀ n₀ left₀ file raw g n left = lengt
 abbrev μ-loop : tie.MeasureT-loop
 μ-loop fd name have file₀ raw₀ g₀ n₀ left₀ file raw g n left = left
 
-pub all-text-spec : {M : Type 1} → statement M
-all-text-spec =
+pub from-text-spec : {M : Type 1} → statement M
+from-text-spec =
     tie.close
     (tie.spec
     Inv-loop
@@ -20,6 +20,7 @@ all-text-spec =
     (λ c. search needs)
     (λ c κs. search needs)
     (λ c κs. search needs)
+    (λ c κs. search needs)
     (λ c. search needs)
     (λ c. search needs)
     (λ c κs. search needs)
@@ -28,5 +29,8 @@ all-text-spec =
     (λ c. search needs)
     (λ c. search needs)
     (λ c. search needs)
+    (λ c. search needs)
+    (λ c. search needs)
+    (λ c κs. search needs)
     (λ c. search needs)
     (λ c. search needs))

@@ -1,12 +1,14 @@
+use Prim.Native.Nat.{_-_}
+use lib.ListN.{length}
 use borrow.Author.Needs.{needs}
-use Rattle.stun_io.proofs.buffered.hex.Statement.{statement}
-use Rattle.stun_io.proofs.buffered.hex.Tie as tie
+use Rattle.stun_io.proofs.buffered.Output.hex.Statement.{statement}
+use Rattle.stun_io.proofs.buffered.Output.hex.Tie as tie
 
 abbrev Inv-loop : tie.InvT-loop
-Inv-loop buf₀ d at₀ left₀ buf at left = Unit {0}
+Inv-loop buf₀ d o₀ at₀ buf o at = Unit {0}
 
 abbrev μ-loop : tie.MeasureT-loop
-μ-loop buf₀ d at₀ left₀ buf at left = left
+μ-loop buf₀ d o₀ at₀ buf o at = length d - at
 
 pub hex-spec : {M : Type 1} → statement M
 hex-spec =
@@ -15,11 +17,13 @@ hex-spec =
     Inv-loop
     μ-loop
     (λ c. search needs)
+    (λ c. search needs)
     (λ c κs. search needs)
     (λ c κs. search needs)
     (λ c. search needs)
-    (λ c. search needs)
     (λ c κs. search needs)
+    (λ c κs. search needs)
+    (λ c. search needs)
     (λ c. search needs)
     (λ c. search needs)
     (λ c. search needs))

@@ -1,8 +1,8 @@
 use mathlib.Core.Path.{_≡_}
 use lib.ListN.{length}
 use borrow.Author.Needs.{needs}
-use Rattle.stun_file.proofs.filled.Statement.{statement}
-use Rattle.stun_file.proofs.filled.Tie as tie
+use Rattle.stun_file.proofs.fill.Statement.{statement}
+use Rattle.stun_file.proofs.fill.Tie as tie
 
 abbrev Inv-loop : tie.InvT-loop
 Inv-loop fd name file₀ have₀ left₀ file have left = length file ≡ length file₀
@@ -10,14 +10,18 @@ Inv-loop fd name file₀ have₀ left₀ file have left = length file ≡ length
 abbrev μ-loop : tie.MeasureT-loop
 μ-loop fd name file₀ have₀ left₀ file have left = left
 
-pub filled-spec : {M : Type 1} → statement M
-filled-spec =
+pub fill-spec : {M : Type 1} → statement M
+fill-spec =
     tie.close
     (tie.spec
     Inv-loop
     μ-loop
     (λ c. search needs)
     (λ c κs. search needs)
+    (λ c. search needs)
+    (λ c. search needs)
+    (λ c. search needs)
+    (λ c. search needs)
     (λ c. search needs)
     (λ c. search needs)
     (λ c. search needs)
