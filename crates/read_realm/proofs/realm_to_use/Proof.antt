@@ -157,4 +157,4 @@ realm-to-use-spec 𝓤 H 𝓜 𝓖 𝓡 =
     entered 𝓤 H (tripleOf 𝓤 H (𝓖 .A) to-use.signature (to-use.spec 𝓤 H (𝓖 .A) (𝓜 .mem) (𝓡 .run)))
     (tables 𝓤 H 𝓜 𝓡 code.env .C) (tables 𝓤 H 𝓜 𝓡 code.env .Λ) #realm·to-use code.function (code.unfolded 𝓤 H 𝓜 𝓡)
     (to-use-meets 𝓤 H (𝓖 .A) (givenOf 𝓤 H 𝓜 𝓖) (𝓜 .mem) (𝓡 .run) (tablesOf 𝓤 H 𝓜 (tables 𝓤 H 𝓜 𝓡 code.env))
-    (cited 𝓤 H (Chosen 𝓤 H (𝓖 .A) (𝓜 .mem) (𝓡 .run)) 𝓜 𝓡 code.env #realm·chosen chosen-def.routine code.calls-read_realm·chosen (chosen-thm.met 𝓤 H 𝓜 𝓖 𝓡)))
+    (cited 𝓤 H (Chosen 𝓤 H (𝓖 .A) (𝓜 .mem) (𝓡 .run)) 𝓜 𝓡 code.env #realm·chosen chosen-def.routine code.calls-read-realm·chosen (chosen-thm.met 𝓤 H 𝓜 𝓖 𝓡)))
