@@ -67,28 +67,28 @@ fn tell(what: Said, buffer: &[u8], o: Output, buf: &mut [u8; ROOM]) -> Output {
 }
 
 fn said(
-    f: Line,
+    line: Line,
     input: &[u8],
     size: usize,
     bytes: &mut [u8; LONGEST],
     store: &mut [u8; LARGEST],
 ) -> Said {
-    if f.long {
+    if line.long {
         return Said::Expected(Wanted::Line);
     }
-    one(between(input, f.start, f.end), size, bytes, store)
+    one(between(input, line.start, line.end), size, bytes, store)
 }
 
 // Answers are written when no further line is at hand, so that a person can go on.
-fn told(f: Line, what: Said, buffer: &[u8], o: Output, buf: &mut [u8; ROOM]) -> Output {
+fn told(line: Line, what: Said, buffer: &[u8], o: Output, buf: &mut [u8; ROOM]) -> Output {
     let o = tell(what, buffer, o, buf);
-    if script::idle(f) {
+    if script::idle(line) {
         return o.flush(buf);
     }
     o
 }
 
-// How large the buffer is, and what was written.
+// How large the buffer is, and how the output stands.
 struct State {
     size: usize,
     out: Output,
@@ -96,14 +96,14 @@ struct State {
 
 // A line.
 fn answer(
-    f: Line,
+    line: Line,
     input: &[u8],
     c: State,
     bytes: &mut [u8; LONGEST],
     store: &mut [u8; LARGEST],
     buf: &mut [u8; ROOM],
 ) -> State {
-    let what = said(f, input, c.size, bytes, store);
+    let what = said(line, input, c.size, bytes, store);
     let size = match what {
         Said::Size(n) => n,
         _ => c.size,
@@ -111,7 +111,7 @@ fn answer(
     let o = c.out;
     State {
         size,
-        out: told(f, what, part(store, 0, size), o, buf),
+        out: told(line, what, part(store, 0, size), o, buf),
     }
 }
 
@@ -127,18 +127,18 @@ fn all(
     store: &mut [u8; LARGEST],
     buf: &mut [u8; ROOM],
 ) {
-    let mut f = script::at_start();
+    let mut line = script::at_start();
     let mut c = State {
         size: 65552,
         out: Output::new(),
     };
     let mut left = u64::MAX;
     while left > 0 && goes_on(c) {
-        f = script::next(f, input);
-        if !f.on {
+        line = script::next(line, input);
+        if !line.on {
             break;
         }
-        c = answer(f, input, c, bytes, store, buf);
+        c = answer(line, input, c, bytes, store, buf);
         left -= 1;
     }
     let o = c.out;

@@ -35,16 +35,16 @@ pub fn at_start() -> Line {
 }
 
 // The place behind a line and its end.
-fn behind(f: Line) -> usize {
-    if f.end < f.have {
-        return f.end + 1;
+fn behind(line: Line) -> usize {
+    if line.end < line.have {
+        return line.end + 1;
     }
-    f.have
+    line.have
 }
 
 // Has all that was read been used?
-pub fn idle(f: Line) -> bool {
-    behind(f) == f.have
+pub fn idle(line: Line) -> bool {
+    behind(line) == line.have
 }
 
 fn over() -> Line {
@@ -59,18 +59,18 @@ fn over() -> Line {
 }
 
 // The buffer is full and has no line end. Of a remark its sign is enough.
-fn overlong(f: Line, input: &[u8]) -> Line {
-    if is_comment(input) && !f.long {
+fn overlong(line: Line, input: &[u8]) -> Line {
+    if is_comment(input) && !line.long {
         return waiting(false, 0, 1);
     }
     waiting(true, 0, 0)
 }
 
 // The input has ended: the last line may have no line end.
-fn last(f: Line, have: usize) -> Line {
+fn last(line: Line, have: usize) -> Line {
     Line {
-        on: have > 0 || f.long,
-        long: f.long,
+        on: have > 0 || line.long,
+        long: line.long,
         start: 0,
         end: have,
         have,
@@ -79,27 +79,27 @@ fn last(f: Line, have: usize) -> Line {
 }
 
 // Reads behind what is there, where there is room.
-fn more(f: Line, have: usize, input: &mut [u8]) -> Line {
+fn more(line: Line, have: usize, input: &mut [u8]) -> Line {
     if input.len() <= have {
-        return overlong(f, input);
+        return overlong(line, input);
     }
     let got = read_behind(STDIN_FILENO, b"standard input", input, have);
     match got {
-        Got::Upto(end) => waiting(f.long, 0, end),
-        Got::End => last(f, have),
+        Got::Upto(end) => waiting(line.long, 0, end),
+        Got::End => last(line, have),
         Got::Failed => over(),
     }
 }
 
 // Takes the line that starts where the last one ended, or reads for its end.
-fn seek(f: Line, input: &mut [u8]) -> Line {
-    let start = f.start;
-    let have = f.have;
+fn seek(line: Line, input: &mut [u8]) -> Line {
+    let start = line.start;
+    let have = line.have;
     let end = find(part(input, 0, have), start, 10);
     if end < have {
         return Line {
             on: true,
-            long: f.long,
+            long: line.long,
             start,
             end,
             have,
@@ -107,19 +107,19 @@ fn seek(f: Line, input: &mut [u8]) -> Line {
         };
     }
     let rest = move_down(input, start, have);
-    more(f, rest, input)
+    more(line, rest, input)
 }
 
 // The next line, without its end; not on where there is none.
-pub fn next(f: Line, input: &mut [u8]) -> Line {
-    if f.over {
+pub fn next(line: Line, input: &mut [u8]) -> Line {
+    if line.over {
         return over();
     }
-    let mut f = waiting(false, behind(f), f.have);
+    let mut line = waiting(false, behind(line), line.have);
     let mut left = u64::MAX;
-    while left > 0 && !f.on && !f.over {
-        f = seek(f, input);
+    while left > 0 && !line.on && !line.over {
+        line = seek(line, input);
         left -= 1;
     }
-    f
+    line
 }

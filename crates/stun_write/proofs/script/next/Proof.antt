@@ -5,10 +5,10 @@ use Rattle.stun_write.proofs.script.next.Statement.{statement}
 use Rattle.stun_write.proofs.script.next.Tie as tie
 
 abbrev Inv-loop : tie.InvT-loop
-Inv-loop input₀ f₀ left₀ input f left = (length input ≡ length input₀)
+Inv-loop input₀ line₀ left₀ input line left = (length input ≡ length input₀)
 
 abbrev μ-loop : tie.MeasureT-loop
-μ-loop input₀ f₀ left₀ input f left = left
+μ-loop input₀ line₀ left₀ input line left = left
 
 pub next-spec : {M : Type 1} → statement M
 next-spec =
