@@ -5,7 +5,7 @@ ghost use Rattle.crc.specs.Crc.{bytesFrom, finished, crc32Of};
 // Where a sum starts. A sum of several parts is `finish(update(update(START, one), other))`.
 pub const START: u32 = 0xFFFF_FFFF;
 
-// The first two rows of `folds::tables::EIGHT_ROWS`, for a byte: its high half and its low half.
+// The first two rows of `crc_folds::tables::EIGHT_ROWS`, for a byte: its high half and its low half.
 const TWO_ROWS: [u32; 32] = [
     0x00000000,
     0x1DB71064,

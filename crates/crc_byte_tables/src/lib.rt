@@ -24,7 +24,7 @@ fn wide(t: &[u32], r: usize, x: u32) -> u32
     a ^ b
 }
 
-// The steps of four bytes, by `folds::tables::EIGHT_ROWS` or `byte_rows()`.
+// The steps of four bytes, by `crc_folds::tables::EIGHT_ROWS` or `byte_rows()`.
 pub fn four_by(t: &[u32], x: u32) -> u32
     ensures { λ r. ⌜ r ≡ fourBy (now (t .entry)) x ⌝ }
 {

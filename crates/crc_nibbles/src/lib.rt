@@ -1,4 +1,4 @@
-// A register carried by a table of half bytes that the caller lends, such as `folds::tables::EIGHT_ROWS`.
+// A register carried by a table of half bytes that the caller lends, such as `crc_folds::tables::EIGHT_ROWS`.
 ghost use mathlib.Core.Path.{_≡_};
 ghost use Prim.Native.Nat.{_+_, _*_, _≤_, _<_};
 ghost use lib.ListN.{length};

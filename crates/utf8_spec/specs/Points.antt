@@ -1,4 +1,4 @@
--- How many code points bytes have: those bytes that are no UTF8-tail. `joined-points` of Bijection says that they are the
+-- How many code points bytes have: those bytes that are no UTF8-tail. `joined-points` of BijectionLaws.antt says that they are the
 -- characters of a list that is UTF-8.
 use Prim.Native.Nat.{ℕ, _+_}
 use mathlib.Core.List.{List, [], _∷_}
