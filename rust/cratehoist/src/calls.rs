@@ -5,7 +5,7 @@
 
 use crate::sys;
 pub use crate::sys::{
-    Address, Digest, First, XorForm, Id, Name, Part, Reading, Step, Typed, Written,
+    Address, Digest, First, Id, Name, Part, Reading, Step, Typed, Written, XorForm,
 };
 
 /// The XOR form of an address, and of an XOR form the address; 12 where the family is none.
