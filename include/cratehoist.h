@@ -136,7 +136,7 @@ typedef struct cratehoist_name {
 
 /* ---- reading ---- */
 
-/* Reads a datagram: whole, broken or refused; 1 to 4, 10 to 14, 16, 15. */
+/* Reads a datagram: whole, broken or refused; 1 to 4, 10 to 15. */
 cratehoist_reading cratehoist_read(const uint8_t *datagram, size_t datagram_size);
 
 /* What stands at a place of a datagram: start at 20 and go on at `next`. Value rules are not applied; a broken datagram is

@@ -119,7 +119,7 @@ static cratehoist_reading asked(lent d, lent key)
     cratehoist_reading r = cratehoist_read(d.at, d.size);
     MUST((r.what == CRATEHOIST_REFUSED) == (r.number != 0 && r.number <= 4));
     MUST((r.what == CRATEHOIST_WHOLE) == (r.number == 0));
-    MUST(r.number != 16);
+    MUST(r.number <= 4 || (r.number >= 10 && r.number <= 15));
     MUST(r.what == CRATEHOIST_REFUSED || same(r.id.bytes, d.at + 8, 12));
     size_t place = 20, count = 0;
     cratehoist_step s;

@@ -12,7 +12,7 @@ use Rattle.display.specs.Span.{span}
 unfoldable pub within : ℕ → ℕ → ℕ → Span
 within all p n = span (min p all) (min n (all - p))
 
--- of an attribute at p. 10: its header; 11: its size; 12: the family; 13: class and number; 14: the value; 15 and 16: the sum
+-- of an attribute at p. 10: its header; 11: its size; 12: the family; 13: class and number; 14: the value; else the sum
 unfoldable pub inAttribute : List ℕ → ℕ → ℕ → Span
 inAttribute d n p =
     pick (eqb n 10) (within (length d) p 4)

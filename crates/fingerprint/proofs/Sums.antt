@@ -12,6 +12,7 @@ use Rattle.big_endian.specs.NumbersLaws.{four-at}
 use Rattle.crc.specs.Crc.{bytesFrom, finished, crc32Of}
 use Rattle.crc.specs.CrcLaws.{bytesFrom-append}
 use Rattle.fingerprint.specs.Fingerprint.{fingerprintAt, printed}
+use Rattle.fingerprint.specs.FingerprintLaws.{owes-sum}
 use Rattle.fingerprint.specs.RegisterLaws.{parts}
 
 pub summed : (d : List ℕ) (p : ℕ) {a b c r : ℕ} → 20 ≤ p → p ≤ length d → a ≡ bytesFrom 0xFFFF_FFFF (take 2 d)
@@ -63,5 +64,4 @@ module _ (d : List ℕ) (p : ℕ) where
       too-far k = simp (le-ltb p 20 h, le-ltb (length d) p l, lt-ltb 65535 (p - 20 + 8) k)
 
       pub there : {r : ℕ} → p - 20 + 8 ≤ 65535 → r ≡ fingerprintAt d p → r ≡ printed d p
-      unfolding printed
-      there k e = simp (le-ltb p 20 h, le-ltb (length d) p l, le-ltb 65535 (p - 20 + 8) k) e
+      there k e = e ∙ sym (owes-sum d p h l k)

@@ -61,7 +61,6 @@ numbers =
     ∷ named 13 "no such error code"
     ∷ named 14 "text not UTF-8"
     ∷ named 15 "fingerprint differs"
-    ∷ named 16 "fingerprint too far back"
     ∷ named 21 "no message to add to"
     ∷ named 22 "no such method"
     ∷ named 23 "value not allowed"

@@ -79,7 +79,7 @@ pub fn number(n: u8) -> Name
         b"\x00\x00\x0Ball is well\x00\x01\x09too short\x00\x02\x13first bits not zero\x00\x03\x09no cookie\
         \x00\x04\x18size and length disagree\x00\x0A\x11attribute cut off\x00\x0B\x0Awrong size\
         \x00\x0C\x0Fno such address\x00\x0D\x12no such error code\x00\x0E\x0Etext not UTF-8\
-        \x00\x0F\x13fingerprint differs\x00\x10\x18fingerprint too far back\x00\x15\x14no message to add to\
+        \x00\x0F\x13fingerprint differs\x00\x15\x14no message to add to\
         \x00\x16\x0Eno such method\x00\x17\x11value not allowed\x00\x18\x0Dwrong padding\
         \x00\x19\x0Cmessage full\x00\x1A\x10buffer too small\x00\x1F\x0Anot signed\
         \x00\x20\x11signature differs";

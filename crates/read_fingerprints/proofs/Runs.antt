@@ -3,7 +3,6 @@ use Prim.Native.Nat.{ℕ, _+_, _-_, _*_, _^_, _≤_, _<_}
 use mathlib.Core.List.{List, [], _∷_, _++_, append-nil}
 use mathlib.Core.Path.{_≡_, refl, sym, ap, ap₂, _∙_, subst}
 use native.Mathlib.Omega.{arith}
-use borrow.Author.Tests.{le-ltb}
 use lib.ListN.{length, getD, take, drop, length-take, length-drop}
 use lib.Bits.{bitXor, xor-lt}
 use Rattle.big_endian.specs.Numbers.{two, withLength}
@@ -13,6 +12,7 @@ use Rattle.crc.specs.Octets.{octets, word, times}
 use Rattle.crc.specs.CrcLaws.{bytesFrom-append, octets-add, octets-xor, octets-lt, at-once, apart, low-byte}
 use Rattle.crc_byte_tables.specs.Tables.{Steps, fourBy, eightBy}
 use Rattle.fingerprint.specs.Fingerprint.{printed}
+use Rattle.fingerprint.specs.FingerprintLaws.{owes-sum}
 use Rattle.fingerprint.specs.Register.{register, field}
 use Rattle.fingerprint.specs.RegisterLaws.{parts, register-on, register-other, print-of}
 use Rattle.read_fingerprints.specs.Running.{runningAt, relengthOf, Ran}
@@ -219,10 +219,9 @@ module _ (d : List ℕ) (p : ℕ) (h : 20 ≤ p) (l : p ≤ length d) (k : p - 2
       ∙ ap (runningAt d p) e
 
   pub sum-is : {r : Running} {x : ℕ} → r ≡ runningAt d p (p - 20 + 8) → x ≡ finished (r .sum) → bitXor x 0x5354554E ≡ printed d p
-  unfolding printed runningAt
+  unfolding runningAt
   sum-is {r} {x} e f =
-      simp (le-ltb p 20 h, le-ltb (length d) p l, le-ltb 65535 (p - 20 + 8) k)
-      (ap (λ (z : ℕ). bitXor z 0x5354554E) (f ∙ ap (λ (z : Running). finished (z .sum)) e) ∙ print-of d p)
+      ap (λ (z : ℕ). bitXor z 0x5354554E) (f ∙ ap (λ (z : Running). finished (z .sum)) e) ∙ print-of d p ∙ sym (owes-sum d p h l k)
 
   pub sum-ran : {r : Running} → r ≡ runningAt d p (p - 20 + 8) → Ran d r p
   unfolding runningAt

@@ -1,20 +1,20 @@
--- The FINGERPRINTs of a datagram, judged in order: 16 and 15 (docs/SCOPE.md, "Reading a datagram").
-use Prim.Native.Nat.{ℕ, _+_, _-_}
+-- The FINGERPRINTs of a datagram, judged in order: 15 (docs/SCOPE.md, "Reading a datagram").
+use Prim.Native.Nat.{ℕ}
 use mathlib.Core.List.{List}
 use mathlib.Core.Bool.{_&&_}
 use lib.ListN.{length, drop}
-use lib.Dec.{leb, ltb, eqb}
+use lib.Dec.{leb, eqb}
 use Rattle.base.specs.Choice.{pick}
 use Rattle.base.specs.Same.{same}
 use Rattle.big_endian.specs.Numbers.{four}
 use Rattle.attribute.specs.Attribute.{Attr, parse}
 use Rattle.attribute.specs.Scan.{scan, scanned}
 use Rattle.attribute.specs.declared.Scan.{Scan}
-use Rattle.fingerprint.specs.Fingerprint.{fingerprintAt}
+use Rattle.fingerprint.specs.Fingerprint.{printed}
 
--- a FINGERPRINT at p: 16 where its adjusted length has no place in 16 bits, 15 where its value differs
+-- a FINGERPRINT at p: 15 where its value differs from the sum owed there
 unfoldable pub printFault : List ℕ → ℕ → ℕ → List ℕ → ℕ
-printFault d p k v = pick (eqb k 0x8028) (pick (ltb 65535 (p - 20 + 8)) 16 (pick (same v (four (fingerprintAt d p))) 0 15)) 0
+printFault d p k v = pick (eqb k 0x8028) (pick (same v (four (printed d p))) 0 15) 0
 
 unfoldable pub printFaults : List ℕ → ℕ → Attr → ℕ
 printFaults d p a = printFault d p (a .kind) (a .value)

@@ -212,13 +212,14 @@ fn register_for(t: &[u32], d: &[u8], run: Running, p: usize) -> Running
     relength(register_at(t, d, run, p), (p - 20 + 8) as u16)
 }
 
-// A FINGERPRINT that ends the datagram is summed in one piece: the usual one is the only one.
+// A FINGERPRINT that ends the datagram is summed in one piece: the usual one is the only one. One farther back than a datagram goes
+// owes what `fingerprint_at` says of such a place.
 fn sum_at(t: &[u32], d: &[u8], run: Running, p: usize) -> Summed
-    requires { ⌜ Steps (now t) × Ran (now d) run p × (20 ≤ p) × (p ≤ length (now d)) × (p - 20 + 8 ≤ 65535) ⌝ }
+    requires { ⌜ Steps (now t) × Ran (now d) run p × (20 ≤ p) × (p ≤ length (now d)) ⌝ }
     ensures value { λ r. ⌜ r .value ≡ printed (now (d .entry)) p ⌝ }
     ensures run { λ r. ⌜ Ran (now (d .entry)) (r .run) p ⌝ }
 {
-    if d.len() - p == 8 {
+    if d.len() - p == 8 || 65535 < p - 20 + 8 {
         return Summed {
             value: fingerprint_at(d, p),
             run,
@@ -242,7 +243,7 @@ fn is_there(d: &[u8], at: usize, x: u32) -> bool
     false
 }
 
-// What is wrong with the attribute at p as a FINGERPRINT: 0, 16 or 15; 0 where it is none.
+// What is wrong with the attribute at p as a FINGERPRINT: 0 or 15; 0 where it is none.
 fn print_fault(t: &[u32], d: &[u8], run: Running, p: usize, kind: u16, size: usize) -> Verdict
     requires { ⌜ Steps (now t) × Ran (now d) run p × (20 ≤ p) × (p + 4 + size ≤ length (now d)) ⌝ }
     ensures fault { λ r. ⌜ r .fault ≡ printFault (now (d .entry)) p kind (take size (drop (p + 4) (now (d .entry)))) ⌝ }
@@ -250,9 +251,6 @@ fn print_fault(t: &[u32], d: &[u8], run: Running, p: usize, kind: u16, size: usi
 {
     if kind != FINGERPRINT {
         return Verdict { fault: 0, run };
-    }
-    if 65535 < p - 20 + 8 {
-        return Verdict { fault: 16, run };
     }
     if size != 4 {
         return Verdict { fault: 15, run };

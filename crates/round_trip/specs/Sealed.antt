@@ -5,7 +5,6 @@ use mathlib.Core.Bool.{Bool}
 use mathlib.Core.Path.{_≡_, refl, sym, ap, _∙_, subst}
 use native.Mathlib.Omega.{arith}
 use native.Mathlib.Nat.{add-zero}
-use borrow.Author.Tests.{le-ltb}
 use lib.ListN.{length, take, length-append}
 use lib.Seq.{take-append-add, take-append-le, take-take}
 use lib.Bits.{bitXor}
@@ -22,7 +21,8 @@ use Rattle.attribute.specs.Attribute.{Attr, allBytes}
 use Rattle.attribute.specs.Attribute as one
 use Rattle.attribute.specs.Scan.{Pass}
 use Rattle.crc.specs.Crc.{crc32Of}
-use Rattle.fingerprint.specs.Fingerprint.{fingerprintAt}
+use Rattle.fingerprint.specs.Fingerprint.{fingerprintAt, printed}
+use Rattle.fingerprint.specs.FingerprintLaws.{owes-sum, owes-same}
 use Rattle.hmac.specs.Hmac.{hmacOf}
 use Rattle.hmac.specs.HmacLaws.{length-hmac}
 use Rattle.registry.specs.Rows.{rfc5389, look}
@@ -44,9 +44,10 @@ use Rattle.write_raw.specs.AppendLaws.{total-goes}
 use Rattle.read_integrity.specs.Integrity.{integrityAt}
 use Rattle.write_close.specs.Seal.{fingerprint, integrity}
 use Rattle.round_trip.specs.Message.{Message, bytesOf, messageOf, Shaped, with, held, Right, wholeWith}
-use Rattle.round_trip.specs.FrontLaws.{head-length, head-again, all-append}
+use Rattle.round_trip.specs.FrontLaws.{head-length, head-again, all-append, all-one}
 use Rattle.round_trip.specs.Bijection.{read-written}
 use Rattle.round_trip.specs.Whole.{right-read}
+use Rattle.round_trip.specs.WriteAgain.{bytes-length}
 use Rattle.round_trip.specs.Appending.{held-shaped, held-bytes, held-length, with-shaped, appended-bytes}
 
 -- attributes that pass, and one more that does, where a pass before is a pass after
@@ -71,6 +72,9 @@ front-with t n v id s q il h =
 module _ (d : List ℕ) (h : Bytes d) (there : plan.Message d) (a : Attr) where
   size : 20 + length (allBytes (held d .attributes)) ≡ sizeOf d
   size = ap (λ (x : ℕ). 20 + x) (held-length d h there)
+
+  room : sizeOf d ≤ length (bytesOf (with (held d) a))
+  room = omega (arith, bytes-length (with (held d) a) (held-shaped d h there .id), all-one (held d .attributes) a, size)
 
   same-front : (q v : ℕ) → 20 ≤ q → q ≤ sizeOf d → withLength (take q (bytesOf (with (held d) a))) v ≡ withLength (take q (bytesOf (held d))) v
   unfolding bytesOf
@@ -110,9 +114,11 @@ module _ (d : List ℕ) {t : ℕ} (h : Bytes d) (a : Attr) (small : a .kind < 65
   wN = with-shaped d 0 a h small e
 
   -- the sums at the places of the earlier attributes are as they were
-  same-sum : (q : ℕ) → 20 ≤ q → q ≤ sizeOf d → fingerprintAt (bytesOf N) q ≡ fingerprintAt (bytesOf M) q
+  same-sum : (q : ℕ) → 20 ≤ q → q ≤ sizeOf d → printed (bytesOf N) q ≡ printed (bytesOf M) q
   unfolding fingerprintAt
-  same-sum q l k = ap (λ (x : List ℕ). bitXor (crc32Of x) 0x5354554E) (same-front d h there a q (q - 20 + 8) l k)
+  same-sum q l k =
+      owes-same (bytesOf N) (bytesOf M) q l (omega (arith, room d h there a)) (omega (arith, bytes-length M (wM .id), size d h there a))
+      (ap (λ (x : List ℕ). bitXor (crc32Of x) 0x5354554E) (same-front d h there a q (q - 20 + 8) l k))
 
   print-agree : (q : ℕ) (x : Attr) → 20 ≤ q → q ≤ sizeOf d → printFaults (bytesOf M) q x ≡ 0 → printFaults (bytesOf N) q x ≡ 0
   unfolding printFaults printFault
@@ -160,10 +166,11 @@ module _ (d : List ℕ) {t : ℕ} (h : Bytes d) (e : answer d 0 (fingerprint d) 
   unfolding fingerprint
   few = omega (arith, going d h (fingerprint d) tiny e .2)
 
-  own-sum : fingerprintAt (bytesOf (with (held d) (fingerprint d))) (sizeOf d) ≡ fingerprintAt d (sizeOf d)
+  own-sum : printed (bytesOf (with (held d) (fingerprint d))) (sizeOf d) ≡ fingerprintAt d (sizeOf d)
   unfolding fingerprintAt
   own-sum =
-      ap (λ (x : List ℕ). bitXor (crc32Of x) 0x5354554E)
+      owes-sum (bytesOf (with (held d) (fingerprint d))) (sizeOf d) (omega arith) (room d h (there d h (fingerprint d) tiny e) (fingerprint d)) few
+      ∙ ap (λ (x : List ℕ). bitXor (crc32Of x) 0x5354554E)
       (own-front d h (there d h (fingerprint d) tiny e) (fingerprint d) (sizeOf d - 20 + 8))
 
   value-right : valueFaults rfc5389 (sizeOf d) (fingerprint d) ≡ 0
@@ -173,8 +180,7 @@ module _ (d : List ℕ) {t : ℕ} (h : Bytes d) (e : answer d 0 (fingerprint d) 
   print-right : printFaults (bytesOf (with (held d) (fingerprint d))) (sizeOf d) (fingerprint d) ≡ 0
   unfolding printFaults printFault fingerprint
   print-right =
-      simp (le-ltb 65535 (sizeOf d - 20 + 8) few)
-      (ap (λ (b : Bool). pick b 0 15) (ap (λ (x : ℕ). same (four (fingerprintAt d (sizeOf d))) (four x)) own-sum ∙ same-refl (four (fingerprintAt d (sizeOf d)))))
+      ap (λ (b : Bool). pick b 0 15) (ap (λ (x : ℕ). same (four (fingerprintAt d (sizeOf d))) (four x)) own-sum ∙ same-refl (four (fingerprintAt d (sizeOf d))))
 
   pub sealed : {c : MessageClass} {m : Method} {n : ℕ} → readingOf rfc5389 (take (sizeOf d) d) .answer ≡ Whole c m n
       → readingOf rfc5389 (take t (appended d 0 (fingerprint d))) .answer ≡ Whole c m (n + 1)

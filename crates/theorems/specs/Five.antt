@@ -12,7 +12,7 @@ use Rattle.header.specs.Header.{frontFault, headerFault}
 use Rattle.crc.specs.Crc.{bitStep, bitSteps, byteStep, bytesFrom, crc32Of}
 use Rattle.attribute.specs.Attribute.{parse}
 use Rattle.attribute.specs.Scan.{scan, scanned}
-use Rattle.fingerprint.specs.Fingerprint.{fingerprintAt}
+use Rattle.fingerprint.specs.Fingerprint.{fingerprintAt, printed}
 use Rattle.registry.specs.Rows.{look, rfc5389}
 use Rattle.registry.specs.Fault.{ruleFault, entryFault, fault}
 use Rattle.read_fingerprints.specs.Fingerprints.{printFault, printFaults}
@@ -34,7 +34,7 @@ other = holding (0x41 ∷ 0x06 ∷ 0x71 ∷ 0xDB ∷ 0x01 ∷ 0 ∷ 0 ∷ 0 ∷ 
 
 -- both are whole under the list of RFC 5389, and each ends in a FINGERPRINT
 pub one-ends : Ends rfc5389 one
-unfolding Whole answerSaid readingSaid readingOf outcome scanned scan valueFaults printFaults printFault fault entryFault look ruleFault fingerprintAt crc32Of bytesFrom byteStep bitSteps bitStep withLength same headerFault frontFault be16 cookieAt parse
+unfolding Whole answerSaid readingSaid readingOf outcome scanned scan valueFaults printFaults printFault fault entryFault look ruleFault printed fingerprintAt crc32Of bytesFrom byteStep bitSteps bitStep withLength same headerFault frontFault be16 cookieAt parse
 one-ends = record {
   bytes = tested one refl;
   whole = refl;
@@ -45,7 +45,7 @@ one-ends = record {
 }
 
 pub other-ends : Ends rfc5389 other
-unfolding Whole answerSaid readingSaid readingOf outcome scanned scan valueFaults printFaults printFault fault entryFault look ruleFault fingerprintAt crc32Of bytesFrom byteStep bitSteps bitStep withLength same headerFault frontFault be16 cookieAt parse
+unfolding Whole answerSaid readingSaid readingOf outcome scanned scan valueFaults printFaults printFault fault entryFault look ruleFault printed fingerprintAt crc32Of bytesFrom byteStep bitSteps bitStep withLength same headerFault frontFault be16 cookieAt parse
 other-ends = record {
   bytes = tested other refl;
   whole = refl;

@@ -9,19 +9,18 @@ use native.Mathlib.Omega.{arith}
 use borrow.Author.Tests.{eq-eqb}
 use lib.ListN.{length, getD, drop, length-append, length-drop}
 use lib.Seq.{drop-drop, drop-append-seam}
-use lib.Dec.{ltb}
 use Rattle.base.specs.Choice.{pick}
-use Rattle.base.specs.BytesLaws.{drop-bytes}
+use Rattle.base.specs.BytesLaws.{byte-at, drop-bytes}
 use Rattle.base.specs.Bytes.{Bytes}
 use Rattle.base.specs.SameLaws.{same-eq}
 use Rattle.base.specs.Same.{same}
-use Rattle.big_endian.specs.Numbers.{four}
-use Rattle.header.specs.Header.{headerFault}
+use Rattle.big_endian.specs.Numbers.{be16, four}
 use Rattle.header.specs.HeaderLaws.{long, sized}
 use Rattle.attribute.specs.Attribute.{Attr, attrs, parse, bytesOf, allBytes}
 use Rattle.attribute.specs.Good.{Good, Goods}
 use Rattle.attribute.specs.RoundTripLaws.{goods-read, write-read}
-use Rattle.fingerprint.specs.Fingerprint.{fingerprintAt}
+use Rattle.fingerprint.specs.Fingerprint.{fingerprintAt, printed}
+use Rattle.fingerprint.specs.FingerprintLaws.{owes-sum}
 use Rattle.fingerprint.specs.StretchLaws.{Sealed, stretch-sealed}
 use Rattle.registry.specs.declared.Row.{Row}
 use Rattle.attribute.specs.Scan.{Pass}
@@ -39,18 +38,14 @@ pass-last f p (y ∷ ys) a h =
     let e : p + length (bytesOf y ++ allBytes ys) ≡ p + length (bytesOf y) + length (allBytes ys) = omega (arith, l) in
     ap (λ (q : ℕ). f q a) e ∙ pass-last f (p + length (bytesOf y)) ys a (h .1)
 
--- a FINGERPRINT that passed has the sum as its value
-right-print : (d : List ℕ) (p k : ℕ) (v : List ℕ) → k ≡ 0x8028 → printFault d p k v ≡ 0 → v ≡ four (fingerprintAt d p)
+-- a FINGERPRINT that passed has the value owed
+right-print : (d : List ℕ) (p k : ℕ) (v : List ℕ) → k ≡ 0x8028 → printFault d p k v ≡ 0 → v ≡ four (printed d p)
 unfolding printFault
-right-print d p k v e f = far (ltb 65535 (p - 20 + 8)) (simp (eq-eqb k 0x8028 e) at f)
+right-print d p k v e f = value (same v (four (printed d p))) refl (simp (eq-eqb k 0x8028 e) at f)
   where
-    value : (b : Bool) → same v (four (fingerprintAt d p)) ≡ b → _≡_ {A = ℕ} (pick b 0 15) 0 → v ≡ four (fingerprintAt d p)
-    value true q g = same-eq v (four (fingerprintAt d p)) q
+    value : (b : Bool) → same v (four (printed d p)) ≡ b → _≡_ {A = ℕ} (pick b 0 15) 0 → v ≡ four (printed d p)
+    value true q g = same-eq v (four (printed d p)) q
     value false q g = absurd (omega arith)
-
-    far : (b : Bool) → _≡_ {A = ℕ} (pick b 16 (pick (same v (four (fingerprintAt d p))) 0 15)) 0 → v ≡ four (fingerprintAt d p)
-    far true g = absurd (omega arith)
-    far false g = value (same v (four (fingerprintAt d p))) refl g
 
 good-last : (ys : List Attr) (a : Attr) → Goods (ys ++ (a ∷ [])) → Good a
 good-last [] a g = g .0
@@ -62,9 +57,9 @@ module _ (rows : List Row) (d : List ℕ) (h : Bytes d) (w : Whole rows d) (ys :
   abbrev at : ℕ
   at = 20 + length (allBytes ys)
 
-  value : a .value ≡ four (fingerprintAt d at)
+  owed : a .value ≡ four (printed d at)
   unfolding printFaults
-  value = right-print d at (a .kind) (a .value) k (pass-last (printFaults d) 20 ys a (rw e at (parts rows d w .prints)))
+  owed = right-print d at (a .kind) (a .value) k (pass-last (printFaults d) 20 ys a (rw e at (parts rows d w .prints)))
 
   body : allBytes ys ++ bytesOf a ≡ drop 20 d
   body =
@@ -75,32 +70,40 @@ module _ (rows : List Row) (d : List ℕ) (h : Bytes d) (w : Whole rows d) (ys :
   pad : a .pad ≡ []
   pad =
       let b : Good a = good-last ys a (rw e at (goods-read 0 (drop 20 d) (drop-bytes 20 d h))) in
-      let v : length (a .value) ≡ 4 = ap length value in
+      let v : length (a .value) ≡ 4 = ap length owed in
       nothing (a .pad) (omega (arith, b .padding, v))
     where
       nothing : (l : List ℕ) → length l ≡ 0 → l ≡ []
       nothing [] e = refl
       nothing (x ∷ l) e = absurd (omega arith)
 
+  whole-size : length d ≡ at + 8
+  whole-size =
+      let l : 20 ≤ length d = long d (parts rows d w .header) in
+      let n : length d - 20 ≡ length (allBytes ys) + length (bytesOf a) = sym (length-drop 20 d) ∙ sym (ap length body) ∙ length-append (allBytes ys) (bytesOf a) in
+      let v : length (a .value ++ a .pad) ≡ 4 = rw (owed, pad) refl in
+      omega arith
+
+  field : be16 d 2 ≡ at - 20 + 8
+  field = omega (arith, sized d (parts rows d w .header), whole-size)
+
   bytes : bytesOf a ≡ 0x80 ∷ 0x28 ∷ 0 ∷ 4 ∷ four (fingerprintAt d at)
-  bytes = rw (k, value, pad)
+  unfolding be16
+  bytes =
+      let o : a .value ≡ four (fingerprintAt d at) =
+      owed ∙ ap four (owes-sum d at (omega arith) (omega (arith, whole-size)) (omega (arith, field, byte-at d 2 h, byte-at d 3 h)))
+      in
+      rw (k, o, pad)
 
   pub sealed : Sealed d at
-  sealed =
-      let g : headerFault d ≡ 0 = parts rows d w .header in
-      let l : 20 ≤ length d = long d g in
-      let n : length d - 20 ≡ length (allBytes ys) + 8 =
-      sym (length-drop 20 d) ∙ sym (ap length body) ∙ length-append (allBytes ys) (bytesOf a)
-      ∙ ap (λ (x : List ℕ). length (allBytes ys) + length x) bytes
-      in
-      record {
-        low = omega arith;
-        long = omega arith;
-        field = omega (arith, sized d g);
-        print =
-            sym (drop-drop (length (allBytes ys)) 20 d) ∙ ap (drop (length (allBytes ys))) (sym body)
-            ∙ drop-append-seam (allBytes ys) (bytesOf a) ∙ bytes;
-      }
+  sealed = record {
+    low = omega arith;
+    long = omega (arith, whole-size);
+    field = field;
+    print =
+        sym (drop-drop (length (allBytes ys)) 20 d) ∙ ap (drop (length (allBytes ys))) (sym body)
+        ∙ drop-append-seam (allBytes ys) (bytesOf a) ∙ bytes;
+  }
 
 ending : {rows : List Row} {d : List ℕ} (x : Ends rows d) → Sealed d (20 + length (allBytes (x .before)))
 ending {rows} {d} x = sealed rows d (x .bytes) (x .whole) (x .before) (x .print) (x .last) (x .kind)

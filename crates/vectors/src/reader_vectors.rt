@@ -127,6 +127,44 @@ fn differs() {
     );
 }
 
+// A datagram of so many bytes: its front, zeros, and what it ends in.
+fn long(name: &[u8], size: usize, front: &[u8], end: &[u8]) {
+    let mut d = [0u8; 65552];
+    if d.len() < size {
+        return;
+    }
+    if size < end.len() {
+        return;
+    }
+    buffers::put_bytes(&mut d, 0, front);
+    buffers::put_bytes(&mut d, size - end.len(), end);
+    case(name, &d[0..size]);
+}
+
+// FINGERPRINT behind 65,536 bytes, section 1.5 of that page, and behind 65,544, as far back as one can start: right and wrong.
+fn far() {
+    long(
+        b"1.5",
+        65544,
+        b"\x00\x01\xFF\xF4\x21\x12\xA4B\x00\x00\x00\x00\x00\x00\x00\x00\x00\x00\x00\x00\xC0\x01\xFF\xE8",
+        b"\x80\x28\x00\x04\xED\x5C\x11\xF4",
+    );
+    let front: &[u8] =
+        b"\x00\x01\xFF\xFC\x21\x12\xA4B\x00\x00\x00\x00\x00\x00\x00\x00\x00\x00\x00\x00\xC0\x01\xFF\xF0";
+    long(
+        b"fingerprint_farthest",
+        65552,
+        front,
+        b"\x80\x28\x00\x04M\xE7\x5E\xBC",
+    );
+    long(
+        b"fingerprint_farthest_wrong",
+        65552,
+        front,
+        b"\x80\x28\x00\x04M\xE7\x5E\xBD",
+    );
+}
+
 // Its section 7.
 fn cut() {
     each(
@@ -191,6 +229,7 @@ fn rfc() {
 pub fn run() {
     values();
     differs();
+    far();
     cut();
     sizes();
     rfc();

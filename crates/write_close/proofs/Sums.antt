@@ -3,13 +3,13 @@ use Prim.Native.Nat.{ℕ, _+_, _-_, _%_}
 use mathlib.Core.List.{List, []}
 use mathlib.Core.Path.{_≡_, sym, ap, ap₂, _∙_}
 use native.Mathlib.Omega.{arith}
-use borrow.Author.Tests.{le-ltb}
 use lib.ListN.{length, take, replicate}
 use Rattle.base.specs.Laid.{laid}
 use Rattle.big_endian.specs.Numbers.{be16, four, withLength}
 use Rattle.buffers.specs.Put.{put}
 use Rattle.buffers.specs.PutLaws.{put-laid}
 use Rattle.fingerprint.specs.Fingerprint.{fingerprintAt, printed}
+use Rattle.fingerprint.specs.FingerprintLaws.{owes-sum}
 use Rattle.hmac.specs.Hmac.{hmacOf}
 use Rattle.hmac.specs.HmacLaws.{length-hmac}
 use Rattle.write_begin.specs.declared.Written.{Written}
@@ -27,13 +27,11 @@ four-put x e = e ∙ put-laid (replicate 4 0) 0 (four x) (omega arith)
 
 module _ (d : List ℕ) {b x : ℕ} {v : List ℕ} (o : b ≡ be16 d 2) (e : x ≡ printed d (20 + b)) (f : v ≡ put (replicate 4 0) 0 (four x)) where
   printed-there : (at body total : ℕ) → Going d 0 4 0 at body total → v ≡ four (fingerprintAt d (sizeOf d))
-  unfolding printed
   printed-there at body total g =
       let s : 20 + b ≡ sizeOf d = omega arith in
       four-put x f
       ∙ ap four
-      (e ∙ ap (printed d) s
-      ∙ simp (le-ltb (sizeOf d) 20 (omega arith), le-ltb (length d) (sizeOf d) (omega (arith, g)), le-ltb 65535 (sizeOf d - 20 + 8) (omega (arith, g))))
+      (e ∙ ap (printed d) s ∙ owes-sum d (sizeOf d) (omega arith) (omega (arith, g)) (omega (arith, g)))
 
   pub print-answer : {r : Written} → r ≡ answer d 0 (attr 0x8028 v []) → r ≡ answer d 0 (fingerprint d)
   unfolding fingerprint

@@ -42,7 +42,6 @@ impl Error {
             13 => "no such error code",
             14 => "text not UTF-8",
             15 => "fingerprint differs",
-            16 => "fingerprint too far back",
             21 => "no message to add to",
             22 => "no such method",
             23 => "value not allowed",

@@ -6,12 +6,10 @@ use crate::{ours, reader, sums, writer};
 use std::collections::BTreeMap;
 use std::fmt::Debug;
 
-/// The numbers of docs/SCOPE.md that an input can bring. 16 is none of them: a FINGERPRINT of 4 bytes ends by 65,555, so it starts
-/// by 65,547, and its adjusted length is at most 65,535.
+/// The numbers of docs/SCOPE.md. Each is to be reached, and another from either side is a failure.
 pub const NUMBERS: [u8; 19] = [
     0, 1, 2, 3, 4, 10, 11, 12, 13, 14, 15, 21, 22, 23, 24, 25, 26, 31, 32,
 ];
-pub const NEVER: u8 = 16;
 
 /// How many cases came by chance, and how often each call was compared, by the number that it told.
 #[derive(Default)]
@@ -40,6 +38,10 @@ impl Tally {
                 input.join(" | ")
             );
         }
+        assert!(
+            NUMBERS.contains(&number),
+            "{call}: no such number: {number}"
+        );
         *self
             .told
             .entry(call)

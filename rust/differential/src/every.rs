@@ -368,6 +368,26 @@ pub fn fingerprints(t: &mut Tally, r: &mut Random) {
     }
 }
 
+/// A FINGERPRINT at the last place where one can start: right, wrong, and before another attribute.
+pub fn farthest(t: &mut Tally, r: &mut Random) {
+    for behind in [0, 4, 8, 36] {
+        let mut d = datagram(&attribute(0xC001, &vec![0x5A; 65_520 - behind]));
+        let place = d.len();
+        fingerprinted(&mut d);
+        if behind > 0 {
+            d.extend(attribute(0xC001, &vec![0xA5; behind - 4]));
+            relength(&mut d);
+        }
+        assert_eq!((d.len(), place + behind), (65_552, 65_544));
+        t.datagram(r, &d, b"k");
+        for byte in 0..8 {
+            d[place + byte] ^= 1;
+            t.read(&d);
+            d[place + byte] ^= 1;
+        }
+    }
+}
+
 /// Every cut and every change of one byte of messages with each known attribute.
 pub fn changes(t: &mut Tally, r: &mut Random, every_byte: bool) {
     for d in samples() {

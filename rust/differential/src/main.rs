@@ -16,7 +16,7 @@ fn main() -> ExitCode {
     let (lines, all) = differential::report(&tally);
     print!("{lines}");
     if !all {
-        println!("a number was not reached, or 16 was");
+        println!("a number was not reached");
         return ExitCode::FAILURE;
     }
     println!(

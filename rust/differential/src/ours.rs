@@ -33,7 +33,7 @@ pub fn read(d: &[u8]) -> Reading {
                 count: r.count,
             }
         }
-        (1, reason @ 10..=16) => {
+        (1, reason @ 10..=15) => {
             assert_eq!((r.message_class > 3, r.count), (false, 0));
             Reading::Broken {
                 class,

@@ -254,9 +254,6 @@ pub fn read(d: &[u8]) -> Reading {
         return broken(10, place);
     }
     for a in list.iter().filter(|a| a.kind == FINGERPRINT) {
-        if a.place - 20 + 8 > 65_535 {
-            return broken(16, a.place);
-        }
         if a.value != fingerprint(d, a.place) {
             return broken(15, a.place);
         }

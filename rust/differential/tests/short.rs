@@ -6,7 +6,7 @@ use differential::compare::NUMBERS;
 fn no_difference_and_every_number() {
     let tally = differential::run(40_000, 1, false);
     let (lines, all) = differential::report(&tally);
-    assert!(all, "a number was not reached, or 16 was:\n{lines}");
+    assert!(all, "a number was not reached:\n{lines}");
     let told: Vec<String> = NUMBERS
         .iter()
         .map(|&number| format!("{number}: {}", tally.count(number)))

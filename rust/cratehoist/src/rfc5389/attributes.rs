@@ -158,7 +158,7 @@ impl<'a> ErrorCode<'a> {
 impl From<Error> for ErrorCode<'static> {
     fn from(f: Error) -> Self {
         match f.number() {
-            1..=16 => errors::BadRequest.into(),
+            1..=15 => errors::BadRequest.into(),
             31 | 32 => errors::Unauthorized.into(),
             _ => errors::ServerError.into(),
         }
