@@ -37,7 +37,7 @@ pub fn run() {
             (x >> 24) as u8
         })
         .collect();
-    compare(&data);
+    measure::compared(|| compare(&data));
     for n in [2, 20, 64, 80, 100, 300, 1200, 65_000] {
         let s = &data[..n];
         let time = |sum: fn(&[u8]) -> u32| move || { black_box(sum(black_box(s))); };

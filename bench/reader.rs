@@ -193,7 +193,7 @@ fn compare() {
 }
 
 pub fn run() {
-    compare();
+    measure::compared(compare);
     let d = response();
     let mut a = agent(&d[4..20]);
     assert!(libnice(&mut a, &d));

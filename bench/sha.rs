@@ -72,7 +72,7 @@ fn compare(bytes: &[u8]) {
 pub fn run() {
     let bytes: Vec<u8> = (0..65_000u32).map(|i| (i * 7 + i / 251) as u8).collect();
     let key = &bytes[100..120];
-    compare(&bytes);
+    measure::compared(|| compare(&bytes));
     for n in [20, 100, 1000, 65_000] {
         let s = &bytes[..n];
         measure::row("sha1::hash", n, "OpenSSL SHA1", || { black_box(hash(s)); }, || { black_box(their_hash(s)); });

@@ -64,7 +64,7 @@ fn compare() {
 }
 
 pub fn run() {
-    compare();
+    measure::compared(compare);
     for (name, of) in TEXTS {
         for size in [16, 120, 64 * 1024] {
             let s = text(of, size);
