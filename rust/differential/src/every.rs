@@ -368,7 +368,7 @@ pub fn fingerprints(t: &mut Tally, r: &mut Random) {
     }
 }
 
-/// A FINGERPRINT at the last place where one can start: right, wrong, and before another attribute.
+/// A FINGERPRINT at the last place where one can start, and near it with an attribute behind; right and wrong.
 pub fn farthest(t: &mut Tally, r: &mut Random) {
     for behind in [0, 4, 8, 36] {
         let mut d = datagram(&attribute(0xC001, &vec![0x5A; 65_520 - behind]));
