@@ -110,13 +110,14 @@ typedef struct cratehoist_part {
     size_t size;
 } cratehoist_part;
 
-/* What a value says. An address: family, port and IP. An error code: the code, and the phrase as the part. Else the value itself
- * is the part. */
+/* What a value says. An address: family, port and IP. An error code: the code, the 21 reserved bits as a number, and the phrase as
+ * the part. Else the value itself is the part. */
 typedef struct cratehoist_typed {
     uint8_t number;
     uint8_t family;
     uint16_t port;
     uint16_t code;
+    uint32_t reserved;
     uint8_t ip[16];
     size_t start;
     size_t size;
@@ -176,8 +177,9 @@ cratehoist_written cratehoist_append_text(uint8_t *buffer, size_t buffer_size, u
  * family that is neither 1 nor 2, is 23. */
 cratehoist_written cratehoist_append_address(uint8_t *buffer, size_t buffer_size, uint16_t kind, cratehoist_address address);
 
-/* Appends ERROR-CODE, of a code from 300 to 699: 21, 23, 25, 26. */
-cratehoist_written cratehoist_append_error_code(uint8_t *buffer, size_t buffer_size, uint16_t code, const uint8_t *phrase, size_t phrase_size);
+/* Appends ERROR-CODE, of a code from 300 to 699 and a reserved number up to 2,097,151, which is 0 but for one that was read:
+ * 21, 23, 25, 26. */
+cratehoist_written cratehoist_append_error_code(uint8_t *buffer, size_t buffer_size, uint16_t code, uint32_t reserved, const uint8_t *phrase, size_t phrase_size);
 
 /* Appends UNKNOWN-ATTRIBUTES: types of two bytes each, the first the higher: 21, 23, 25, 26. */
 cratehoist_written cratehoist_append_unknown_attributes(uint8_t *buffer, size_t buffer_size, const uint8_t *types, size_t types_size);

@@ -80,6 +80,16 @@ static void names(uint16_t number)
         MUST(names[i].size <= sizeof names[i].text);
 }
 
+/* An ERROR-CODE as it was read, written typed, is the same value. */
+static void code_again(lent v, cratehoist_typed t, cratehoist_id id)
+{
+    lent b = alone(NULL, 0, 24 + (v.size + 3) / 4 * 4);
+    MUST(cratehoist_begin(b.at, b.size, CRATEHOIST_ERROR_RESPONSE, CRATEHOIST_BINDING, id).size == 20);
+    cratehoist_written w = cratehoist_append_error_code(b.at, b.size, t.code, t.reserved, v.at + t.start, t.size);
+    MUST(w.number == 0 && w.size == b.size && u16_at(b.at, b.size, 22) == v.size && same(b.at + 24, v.at, v.size));
+    free(b.at);
+}
+
 /* What one value says, asked of a copy of it. */
 static void value(uint16_t kind, const uint8_t *bytes, size_t size, cratehoist_id id)
 {
@@ -87,7 +97,7 @@ static void value(uint16_t kind, const uint8_t *bytes, size_t size, cratehoist_i
     cratehoist_typed t = cratehoist_typed_value(kind, v.at, v.size, id);
     MUST(cratehoist_refusal(kind, v.at, v.size) == (t.number ? 23 : 0));
     MUST(t.start <= size && t.size <= size - t.start);
-    MUST(t.number == 0 || (t.family == 0 && t.port == 0 && t.code == 0 && t.start == 0 && t.size == 0));
+    MUST(t.number == 0 || (t.family == 0 && t.port == 0 && t.code == 0 && t.reserved == 0 && t.start == 0 && t.size == 0));
     MUST(cratehoist_attribute_name(kind).size || (t.number == 0 && t.size == size)); /* an unknown type is plain */
     if (t.family) {
         cratehoist_address a = {t.family, t.port, {0}};
@@ -96,6 +106,8 @@ static void value(uint16_t kind, const uint8_t *bytes, size_t size, cratehoist_i
         cratehoist_xor_form back = cratehoist_address_xor(there.address, id);
         MUST(there.number == 0 && back.number == 0 && back.address.port == a.port && same(back.address.ip, a.ip, 16));
     }
+    if (t.code)
+        code_again(v, t, id);
     free(v.at);
 }
 
@@ -181,7 +193,7 @@ static cratehoist_written append(int which, lent b, lent part, uint16_t kind)
     case 4:
         return cratehoist_append_unknown_attributes(b.at, b.size, part.at, part.size);
     case 5:
-        return cratehoist_append_error_code(b.at, b.size, 250 + kind % 500, part.at, part.size);
+        return cratehoist_append_error_code(b.at, b.size, 250 + kind % 500, (uint32_t)kind << part.size % 8, part.at, part.size);
     case 6:
         return cratehoist_append_address(b.at, b.size, CRATEHOIST_XOR_MAPPED_ADDRESS, address);
     case 7:

@@ -6,13 +6,14 @@ use Rattle.base.specs.DeterminedLaws.{by}
 use Rattle.base.specs.Determined.{Determines}
 use lib.ListN.{length}
 use Rattle.registry.specs.Rows.{rfc5389}
+use Rattle.registry.specs.ErrorCode.{codeValue}
 use Rattle.read_typed.specs.Typed.{typedOf, partOf, partAt}
 use Rattle.write_raw.specs.Append.{answer, appended}
 use Rattle.write_typed.specs.Typed.{typed, refusal, textRefusal}
-use Rattle.write_error_code.specs.ErrorCode.{codeValue, codeRefusal}
+use Rattle.write_error_code.specs.ErrorCode.{codeRefusal}
 use Rattle.c_write.specs.Written.{told}
 use Rattle.c_typed.specs.Typed.{typedTold}
-use Rattle.c_typed.specs.Given.{refusalOf, attrOf}
+use Rattle.c_typed.specs.Given.{refusalOf, attrOf, errorOf}
 use Rattle.c_typed.specs.declared.Typed.{Typed}
 use Rattle.c_wire.specs.declared.Address.{Address}
 use Rattle.c_wire.specs.declared.Id.{Id}
@@ -65,9 +66,9 @@ determined-cratehoist-append-address =
     (λ x. (told (answer (x .0) (refusalOf (x .1) (x .2)) (attrOf (x .0) (x .1) (x .2))), appended (x .0) (refusalOf (x .1) (x .2)) (attrOf (x .0) (x .1) (x .2))))
     (λ κs a y d i q. ap₂ (λ (u : Written) (v : List ℕ). (u, v)) (q .0) (q .1))
 
-pub determined-cratehoist-append-error-code : Determines append-error-code-kinds.ps append-error-code-kinds.r {I = List ℕ × ℕ × List ℕ} {A = Written × List ℕ} append-error-code-reads.Asked append-error-code-reads.Learnt
-    (λ κs a. (a .0 .now, a .1 .0, a .1 .1 .0 .now)) (λ κs z e. (z, e .0 .now))
+pub determined-cratehoist-append-error-code : Determines append-error-code-kinds.ps append-error-code-kinds.r {I = List ℕ × ℕ × ℕ × List ℕ} {A = Written × List ℕ} append-error-code-reads.Asked append-error-code-reads.Learnt
+    (λ κs a. (a .0 .now, a .1 .0, a .1 .1 .0, a .1 .1 .1 .0 .now)) (λ κs z e. (z, e .0 .now))
 determined-cratehoist-append-error-code =
     by append-error-code-kinds.ps append-error-code-kinds.r append-error-code-reads.Asked append-error-code-reads.Learnt _ _
-    (λ x. (told (answer (x .0) (codeRefusal rfc5389 (x .1) (x .2)) (typed 0x0009 (codeValue (x .1) (x .2)))), appended (x .0) (codeRefusal rfc5389 (x .1) (x .2)) (typed 0x0009 (codeValue (x .1) (x .2)))))
+    (λ x. (told (answer (x .0) (codeRefusal rfc5389 (errorOf (x .1) (x .2)) (x .3)) (typed 0x0009 (codeValue (errorOf (x .1) (x .2)) (x .3)))), appended (x .0) (codeRefusal rfc5389 (errorOf (x .1) (x .2)) (x .3)) (typed 0x0009 (codeValue (errorOf (x .1) (x .2)) (x .3)))))
     (λ κs a y d i q. ap₂ (λ (u : Written) (v : List ℕ). (u, v)) (q .0) (q .1))

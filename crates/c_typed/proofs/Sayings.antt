@@ -11,6 +11,7 @@ use Rattle.net.specs.declared.Family.{Family}
 use Rattle.wire.specs.declared.transaction_id.TransactionId.{TransactionId}
 use Rattle.registry.specs.Rows.{rfc5389, ruleOf}
 use Rattle.registry.specs.Fault.{fault}
+use Rattle.registry.specs.declared.ErrorCode.{ErrorCode}
 use Rattle.registry.specs.declared.Rule.{Rule}
 use Rattle.registry.specs.declared.Rule.the-variants as rule
 use Rattle.read_typed.specs.Typed.{valueSaid, without, saidBy, readOf, typedOf, startBy, partAt, partOf}
@@ -22,7 +23,7 @@ use Rattle.c_typed.specs.Typed.{typedOut, typedTold}
 -- only an error code's part starts behind the value's front
 abbrev startIn : Value → ℕ
 startIn (Address f p) = 0
-startIn (Code c) = 4
+startIn (Code e) = 4
 startIn Plain = 0
 startIn (Refused n) = 0
 
@@ -51,25 +52,25 @@ module _ (k : ℕ) (v : List ℕ) (id : TransactionId) {t : typed.Typed} (e : t 
       ∙ ap₂ (λ (a n : ℕ). typedOut (valueSaid (typedOf rfc5389 k v id .value) []) (typedOf rfc5389 k v id .ip) a n) (starts k v id) (ap length q)
 
   pub address : {f : Family} {o n : ℕ} → t .value ≡ Address f o → n ≡ familyNumber f
-      → record { number = 0; family = n; port = o; code = 0; ip = t .ip; start = 0; size = length p }
+      → record { number = 0; family = n; port = o; code = 0; reserved = 0; ip = t .ip; start = 0; size = length p }
       ≡ typedTold (typedOf rfc5389 k v id) (partAt rfc5389 k v) (length (partOf rfc5389 k v))
   unfolding typedOut valueSaid
   address {f} {o} g h = rw h (by-value (Address f o) g)
 
-  pub code : {c : ℕ} → t .value ≡ Code c
-      → record { number = 0; family = 0; port = 0; code = c; ip = t .ip; start = 4; size = length p }
+  pub code : {c : ErrorCode} → t .value ≡ Code c
+      → record { number = 0; family = 0; port = 0; code = c .code; reserved = c .reserved; ip = t .ip; start = 4; size = length p }
       ≡ typedTold (typedOf rfc5389 k v id) (partAt rfc5389 k v) (length (partOf rfc5389 k v))
   unfolding typedOut valueSaid
   code {c} g = by-value (Code c) g
 
   pub plain : t .value ≡ Plain
-      → record { number = 0; family = 0; port = 0; code = 0; ip = t .ip; start = 0; size = length p }
+      → record { number = 0; family = 0; port = 0; code = 0; reserved = 0; ip = t .ip; start = 0; size = length p }
       ≡ typedTold (typedOf rfc5389 k v id) (partAt rfc5389 k v) (length (partOf rfc5389 k v))
   unfolding typedOut valueSaid
   plain g = by-value Plain g
 
   pub faulty : {n : ℕ} → t .value ≡ Refused n
-      → record { number = n; family = 0; port = 0; code = 0; ip = t .ip; start = 0; size = length p }
+      → record { number = n; family = 0; port = 0; code = 0; reserved = 0; ip = t .ip; start = 0; size = length p }
       ≡ typedTold (typedOf rfc5389 k v id) (partAt rfc5389 k v) (length (partOf rfc5389 k v))
   unfolding typedOut valueSaid
   faulty {n} g = by-value (Refused n) g

@@ -1,4 +1,4 @@
--- An address as C gives it to a typed append, with its family as a number.
+-- What C gives to a typed append: an address, with its family as a number, and an error code by its parts.
 use Prim.Native.Nat.{ℕ}
 use mathlib.Core.List.{List}
 use mathlib.Core.Bool.{_||_}
@@ -6,6 +6,7 @@ use lib.Dec.{eqb}
 use Rattle.base.specs.Choice.{pick}
 use Rattle.attribute.specs.Attribute.{Attr}
 use Rattle.registry.specs.Rows.{rfc5389, ruleOf}
+use Rattle.registry.specs.declared.ErrorCode.{ErrorCode}
 use Rattle.read_typed.specs.Typed.{familyNumbered}
 use Rattle.write_address.specs.Address.{addressRefusal, addressAttr}
 use Rattle.c_wire.specs.XorForm.{addr}
@@ -17,3 +18,6 @@ refusalOf k a = pick (eqb (a .family) 1 || eqb (a .family) 2) (addressRefusal (r
 
 unfoldable pub attrOf : List ℕ → ℕ → c.Address → Attr
 attrOf d k a = addressAttr rfc5389 d k (addr (familyNumbered (a .family)) a)
+
+abbrev pub errorOf : ℕ → ℕ → ErrorCode
+errorOf c r = record { code = c; reserved = r }

@@ -3,13 +3,14 @@
 ghost use mathlib.Core.Path.{_≡_};
 ghost use lib.ListN.{length};
 ghost use Rattle.registry.specs.Rows.{rfc5389};
+ghost use Rattle.registry.specs.ErrorCode.{codeValue};
 ghost use Rattle.read_typed.specs.Typed.{typedOf, partOf, partAt};
 ghost use Rattle.write_raw.specs.Append.{answer, appended};
 ghost use Rattle.write_typed.specs.Typed.{typed, refusal, textRefusal};
-ghost use Rattle.write_error_code.specs.ErrorCode.{codeValue, codeRefusal};
+ghost use Rattle.write_error_code.specs.ErrorCode.{codeRefusal};
 ghost use Rattle.c_write.specs.Written.{told};
 ghost use Rattle.c_typed.specs.Typed.{typedTold};
-ghost use Rattle.c_typed.specs.Given.{refusalOf, attrOf};
+ghost use Rattle.c_typed.specs.Given.{refusalOf, attrOf, errorOf};
 use c_wire::Address;
 use c_wire::Id;
 use c_write::Written;
@@ -17,6 +18,7 @@ use c_write::in_numbers;
 use net::Family;
 use net::SocketAddr;
 use read_typed::Value;
+use registry::ErrorCode;
 use wire::transaction_id::TransactionId;
 use write_address::append_address;
 use write_typed::append_value;
@@ -28,6 +30,7 @@ pub struct Typed {
     pub family: u8,
     pub port: u16,
     pub code: u16,
+    pub reserved: u32,
     pub ip: [u8; 16],
     pub start: usize,
     pub size: usize,
@@ -49,15 +52,17 @@ pub extern "C" fn cratehoist_typed_value(kind: u16, value: &[u8], id: Id) -> Typ
             family: family.as_u8(),
             port,
             code: 0,
+            reserved: 0,
             ip: ip,
             start: 0,
             size,
         },
-        Value::Code { code } => Typed {
+        Value::Code(error) => Typed {
             number: 0,
             family: 0,
             port: 0,
-            code,
+            code: error.code,
+            reserved: error.reserved,
             ip: ip,
             start: 4,
             size,
@@ -67,6 +72,7 @@ pub extern "C" fn cratehoist_typed_value(kind: u16, value: &[u8], id: Id) -> Typ
             family: 0,
             port: 0,
             code: 0,
+            reserved: 0,
             ip: ip,
             start: 0,
             size,
@@ -76,6 +82,7 @@ pub extern "C" fn cratehoist_typed_value(kind: u16, value: &[u8], id: Id) -> Typ
             family: 0,
             port: 0,
             code: 0,
+            reserved: 0,
             ip: ip,
             start: 0,
             size,
@@ -147,10 +154,12 @@ pub extern "C" fn cratehoist_append_address(
 pub extern "C" fn cratehoist_append_error_code(
     buffer: &mut [u8],
     code: u16,
+    reserved: u32,
     phrase: &[u8],
 ) -> Written
-    ensures { λ r. ⌜ (r ≡ told (answer (now (buffer .entry)) (codeRefusal rfc5389 code (now (phrase .entry))) (typed 0x0009 (codeValue code (now (phrase .entry))))))
-        × (now (buffer .exit) ≡ appended (now (buffer .entry)) (codeRefusal rfc5389 code (now (phrase .entry))) (typed 0x0009 (codeValue code (now (phrase .entry))))) ⌝ }
+    ensures { λ r. ⌜ (r ≡ told (answer (now (buffer .entry)) (codeRefusal rfc5389 (errorOf code reserved) (now (phrase .entry))) (typed 0x0009 (codeValue (errorOf code reserved) (now (phrase .entry))))))
+        × (now (buffer .exit) ≡ appended (now (buffer .entry)) (codeRefusal rfc5389 (errorOf code reserved) (now (phrase .entry))) (typed 0x0009 (codeValue (errorOf code reserved) (now (phrase .entry))))) ⌝ }
 {
-    in_numbers(write_error_code::append_error_code(buffer, code, phrase))
+    let error = ErrorCode { code, reserved };
+    in_numbers(write_error_code::append_error_code(buffer, error, phrase))
 }

@@ -1,7 +1,7 @@
 -- What the calls return, case by case.
-use Prim.Native.Nat.{ℕ, _+_, _*_, _-_, _%_, _≤_, _<_}
+use Prim.Native.Nat.{ℕ, _+_, _*_, _-_, _/_, _%_, _≤_, _<_}
 use mathlib.Core.List.{List, []}
-use mathlib.Core.Path.{_≡_, sym, ap, ap₂, _∙_}
+use mathlib.Core.Path.{_≡_, sym, ap, _∙_}
 use native.Mathlib.Omega.{arith}
 use borrow.Author.Tests.{eq-eqb, ne-eqb}
 use lib.ListN.{length, getD, take, drop, replicate, length-drop, drop-of-length-le, List·getD-eq-default}
@@ -16,12 +16,14 @@ use Rattle.net.specs.declared.Family.the-variants.{Ipv4, Ipv6}
 use Rattle.net.specs.declared.SocketAddr.{SocketAddr}
 use Rattle.registry.specs.Rows.{rfc5389, look, ruleIn}
 use Rattle.registry.specs.Fault.{entryFault, fault}
+use Rattle.registry.specs.ErrorCode.{codeOf}
+use Rattle.registry.specs.declared.ErrorCode.{ErrorCode}
 use Rattle.registry.specs.declared.Entry.{Entry}
 use Rattle.registry.specs.declared.Rule.{Rule}
 use Rattle.registry.specs.declared.Rule.the-variants as rule
 use Rattle.read_typed.specs.declared.Value.the-variants.{Address, Code, Plain, Refused}
 use Rattle.read_typed.specs.declared.Typed.{Typed}
-use Rattle.read_typed.specs.Typed.{familyNumbered, ipOf, codeOf, addressOf, without, saidBy, readOf, typedOf}
+use Rattle.read_typed.specs.Typed.{familyNumbered, ipOf, addressOf, without, saidBy, readOf, typedOf}
 
 pub no-byte : (v : List ℕ) (i : ℕ) → length v ≤ i → 0 ≡ getD v i 0
 no-byte v i h = sym (List·getD-eq-default v 0 {n = i} h)
@@ -36,6 +38,11 @@ pub fields : (v : List ℕ) {b p : ℕ} {f : Family} {i : List ℕ} → b ≡ ge
     → record { family = f; port = p; ip = i } ≡ addressOf v
 unfolding addressOf
 fields v e g h k = cc
+
+pub code-fields : (v : List ℕ) {a b c d : ℕ} → a ≡ getD v 0 0 → b ≡ getD v 1 0 → c ≡ getD v 2 0 → d ≡ getD v 3 0
+    → record { code = c % 8 * 100 + d; reserved = a * 8192 + b * 32 + c / 8 } ≡ codeOf v
+unfolding codeOf
+code-fields v e g h k = cc
 
 pub no-ip : (v : List ℕ) → length v < 4 → replicate 16 0 ≡ ipOf v
 unfolding ipOf put fitsAt laid
@@ -73,9 +80,9 @@ module _ (k : ℕ) (v : List ℕ) {x : Entry} (w : x ≡ look rfc5389 k) {f : �
     unfolding readOf
     xor-address id i m n o = by-rule id (rw i (o ∙ ap saidBy (n ∙ ap (λ (y : SocketAddr). addrXor y id) m)))
 
-    pub code : (id : TransactionId) {y z : ℕ} {r : Typed} → q ≡ rule.Code → y ≡ getD v 2 0 → z ≡ getD v 3 0 → r ≡ without (Code (y % 8 * 100 + z)) → r ≡ typedOf rfc5389 k v id
-    unfolding readOf codeOf
-    code id i m n o = by-rule id (rw i (o ∙ ap₂ (λ (a b : ℕ). without (Code (a % 8 * 100 + b))) m n))
+    pub code : (id : TransactionId) {y : ErrorCode} {r : Typed} → q ≡ rule.Code → y ≡ codeOf v → r ≡ without (Code y) → r ≡ typedOf rfc5389 k v id
+    unfolding readOf
+    code id i m o = by-rule id (rw i (o ∙ ap (λ (e : ErrorCode). without (Code e)) m))
 
     pub text : (id : TransactionId) {r : Typed} → q ≡ rule.Text → r ≡ without Plain → r ≡ typedOf rfc5389 k v id
     unfolding readOf

@@ -1,36 +1,24 @@
 -- What `part_of` returns, case by case: the bytes, and where they lie.
-use Prim.Native.Nat.{ℕ, _+_, _-_, _%_, _≤_}
+use Prim.Native.Nat.{ℕ, _+_, _-_, _≤_}
 use mathlib.Core.List.{List, []}
-use mathlib.Core.Bool.{Bool, true, false}
 use mathlib.Core.Path.{_≡_, refl, sym, ap, _∙_}
 use native.Mathlib.Omega.{arith}
-use borrow.Author.Tests.{eq-eqb, ne-eqb, ltb-false}
-use lib.ListN.{length, getD, take, drop, length-drop}
+use borrow.Author.Tests.{eq-eqb, ne-eqb}
+use lib.ListN.{length, take, drop, length-drop}
 use lib.Seq.{take-all}
-use lib.Dec.{ltb}
-use Rattle.base.specs.Choice.{pick}
-use Rattle.utf8_spec.specs.Utf8.{isUtf8}
 use Rattle.registry.specs.Rows.{look, rfc5389, ruleIn, ruleOf}
-use Rattle.registry.specs.Fault.{codeFault, ruleFault, entryFault, fault}
+use Rattle.registry.specs.ErrorCodeLaws.{passes}
+use Rattle.registry.specs.Fault.{ruleFault, entryFault, fault}
+use Rattle.registry.specs.FaultLaws.{rule-passes}
 use Rattle.registry.specs.declared.Entry.{Entry}
-use Rattle.registry.specs.declared.Entry.the-variants.{Listed, Unknown}
 use Rattle.registry.specs.declared.Rule.{Rule}
 use Rattle.registry.specs.declared.Rule.the-variants.{Address, XorAddress, Text, Code, Types, Plain}
 use Rattle.read_typed.specs.Typed.{partBy, partOf, startBy, partAt}
 
 -- a value that passes the rule of a code has four bytes
 four : (x : Entry) (v : List ℕ) → ruleIn x ≡ Code → entryFault x v ≡ 0 → 4 ≤ length v
-unfolding ruleIn entryFault ruleFault codeFault
-four Unknown v h e = let z : _≡_ {A = ℕ} 0 1 = cc in absurd (omega arith)
-four (Listed l g q) v h e = go (ltb (length v) l) (ltb g (length v)) (ltb (length v) 4) refl (rw h at e)
-  where
-    go : (a b c : Bool) → ltb (length v) 4 ≡ c
-        → _≡_ {A = ℕ} (pick a 11 (pick b 11 (pick c 11 (pick (ltb (getD v 2 0 % 8) 3) 13 (pick (ltb 6 (getD v 2 0 % 8)) 13 (pick (ltb 99 (getD v 3 0)) 13 (pick (isUtf8 (drop 4 v)) 0 14))))))) 0
-        → 4 ≤ length v
-    go true b c f w = absurd (omega arith)
-    go false true c f w = absurd (omega arith)
-    go false false true f w = absurd (omega arith)
-    go false false false f w = ltb-false (length v) 4 f
+unfolding ruleFault
+four x v h e = passes v (ap (λ (q : Rule). ruleFault q v) (sym h) ∙ rule-passes x v e) .0
 
 module _ (k : ℕ) (v : List ℕ) {x : Entry} (w : x ≡ look rfc5389 k) {f : ℕ} (i : f ≡ entryFault x v) where
   e : f ≡ fault rfc5389 k v

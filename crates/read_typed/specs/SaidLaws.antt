@@ -19,7 +19,7 @@ typedFrom s = by (s .kind)
 
     by : ℕ → Typed
     by zero = record { value = Address (familyNumbered (value 0)) (value 1); ip = drop 2 (s .values) }
-    by (suc zero) = record { value = Code (value 0); ip = drop 1 (s .values) }
+    by (suc zero) = record { value = Code (record { code = value 0; reserved = value 1 }); ip = drop 2 (s .values) }
     by (suc (suc zero)) = record { value = Plain; ip = s .values }
     by (suc (suc (suc k))) = record { value = Refused (s .number); ip = s .values }
 
@@ -30,6 +30,6 @@ typed-one = one-to-one typedSaid typedFrom (λ a. back (a .value) (a .ip))
     back : (x : Value) (i : List ℕ) → typedFrom (valueSaid x i) ≡ record { value = x; ip = i }
     back (Address Ipv4 p) i = refl
     back (Address Ipv6 p) i = refl
-    back (Code c) i = refl
+    back (Code e) i = refl
     back Plain i = refl
     back (Refused n) i = refl

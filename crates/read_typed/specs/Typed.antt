@@ -1,5 +1,5 @@
 -- Typed reading: what a value says, by its type (RFC 5389 sections 15.1, 15.2 and 15.6; docs/SCOPE.md, "Typed reading").
-use Prim.Native.Nat.{ℕ, _+_, _*_, _%_}
+use Prim.Native.Nat.{ℕ}
 use mathlib.Core.List.{List, [], _∷_}
 use lib.ListN.{getD, drop, replicate}
 use lib.Dec.{eqb}
@@ -14,6 +14,7 @@ use Rattle.net.specs.declared.Family.the-variants.{Ipv4, Ipv6}
 use Rattle.net.specs.declared.SocketAddr.{SocketAddr}
 use Rattle.registry.specs.Rows.{ruleOf}
 use Rattle.registry.specs.Fault.{fault}
+use Rattle.registry.specs.ErrorCode.{codeOf}
 use Rattle.registry.specs.declared.Row.{Row}
 use Rattle.registry.specs.declared.Rule.{Rule}
 use Rattle.registry.specs.declared.Rule.the-variants as rule
@@ -21,10 +22,11 @@ use Rattle.read_typed.specs.declared.Value.{Value}
 use Rattle.read_typed.specs.declared.Value.the-variants.{Address, Code, Plain, Refused}
 use Rattle.read_typed.specs.declared.Typed.{Typed}
 
--- what an answer says: an address, with family and port; a code; plain bytes; or refused by 11 to 14; and the 16 bytes of the IP
+-- what an answer says: an address, with family and port; a code, with the reserved number; plain bytes; or refused by 11 to 14; and the 16
+-- bytes of the IP
 unfoldable pub valueSaid : Value → List ℕ → Said
 valueSaid (Address f p) i = says 0 0 (familyNumber f ∷ p ∷ i)
-valueSaid (Code c) i = says 1 0 (c ∷ i)
+valueSaid (Code e) i = says 1 0 (e .code ∷ e .reserved ∷ i)
 valueSaid Plain i = says 2 0 i
 valueSaid (Refused n) i = says 3 n i
 
@@ -41,10 +43,6 @@ ipOf v = put (replicate 16 0) 0 (drop 4 v)
 -- byte 1 the family, bytes 2 and 3 the port, and from byte 4 on the IP
 unfoldable pub addressOf : List ℕ → SocketAddr
 addressOf v = record { family = familyNumbered (getD v 1 0); port = be16 v 2; ip = ipOf v }
-
--- the lower three bits of byte 2 are the class and byte 3 is the number
-unfoldable pub codeOf : List ℕ → ℕ
-codeOf v = getD v 2 0 % 8 * 100 + getD v 3 0
 
 -- a value and no IP, and an address
 abbrev pub without : Value → Typed

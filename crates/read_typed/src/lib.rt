@@ -3,17 +3,19 @@ ghost use mathlib.Core.Path.{_≡_};
 ghost use Prim.Native.Nat.{_+_};
 ghost use lib.ListN.{getD};
 ghost use Rattle.registry.specs.Rows.{rfc5389};
+ghost use Rattle.registry.specs.ErrorCode.{codeOf};
 ghost use Rattle.read_typed.specs.Typed.{typedSaid, familyNumbered, ipOf, addressOf, without, saidBy, typedOf, partOf, partAt};
 use net::Family;
 use net::SocketAddr;
 use net::socket_addr_xor;
+use registry::ErrorCode;
 use registry::Rule;
 use wire::transaction_id::TransactionId;
 
 // What a value says. `Plain`: its bytes as they stand are all it says.
 pub enum Value {
     Address { family: Family, port: u16 },
-    Code { code: u16 },
+    Code(ErrorCode),
     Plain,
     Refused { number: u8 },
 }
@@ -87,6 +89,18 @@ fn address(v: &[u8]) -> SocketAddr
     }
 }
 
+// Code and reserved bits as they stand in the value.
+fn error_code(v: &[u8]) -> ErrorCode
+    ensures { λ r. ⌜ r ≡ codeOf (now (v .entry)) ⌝ }
+{
+    let shared = byte(v, 2);
+    let high = byte(v, 0) as u32 * 8192 + byte(v, 1) as u32 * 32;
+    ErrorCode {
+        code: (shared % 8) as u16 * 100 + byte(v, 3) as u16,
+        reserved: high + (shared / 8) as u32,
+    }
+}
+
 // What a value of a type says: its fields, or 11 to 14 just as the reader would give. A type that the list doesn't have is plain.
 pub fn value_of(kind: u16, value: &[u8], id: TransactionId) -> Typed
     ensures { λ r. ⌜ typedSaid r ≡ typedSaid (typedOf rfc5389 kind (now (value .entry)) id) ⌝ }
@@ -100,12 +114,7 @@ pub fn value_of(kind: u16, value: &[u8], id: TransactionId) -> Typed
     match rule {
         Rule::Address => said_by(address(value)),
         Rule::XorAddress => said_by(socket_addr_xor(address(value), id)),
-        Rule::Code => {
-            let class = (byte(value, 2) % 8) as u16;
-            without(Value::Code {
-                code: class * 100 + byte(value, 3) as u16,
-            })
-        }
+        Rule::Code => without(Value::Code(error_code(value))),
         Rule::Text => without(Value::Plain),
         Rule::Types => without(Value::Plain),
         Rule::Plain => without(Value::Plain),

@@ -16,6 +16,12 @@ pub enum Rule {
     Types,
 }
 
+// What an ERROR-CODE says beside its phrase; the reserved bits are a number up to 2,097,151.
+pub struct ErrorCode {
+    pub code: u16,
+    pub reserved: u32,
+}
+
 // One for each kind.
 pub struct Row {
     pub kind: u16,

@@ -4,6 +4,7 @@ use net::Family;
 use read_message::Answer;
 use read_typed::Value;
 use registry::Entry;
+use registry::ErrorCode;
 use stun_io::buffered::Output;
 use stun_io::buffered::ROOM;
 use stun_io::parts::minus;
@@ -151,9 +152,10 @@ fn address(o: Output, buf: &mut [u8; ROOM], family: Family, port: u16, ip: [u8; 
         .hex(buf, part(&ip, 0, family.ip_size()))
 }
 
-fn error(o: Output, buf: &mut [u8; ROOM], code: u16, phrase: &[u8]) -> Output {
+fn error(o: Output, buf: &mut [u8; ROOM], error: ErrorCode, phrase: &[u8]) -> Output {
     o.put(buf, b"error=")
-        .number(buf, code as u64, b'=')
+        .number(buf, error.code as u64, b'=')
+        .number(buf, error.reserved as u64, b'=')
         .hex(buf, phrase)
 }
 
@@ -168,7 +170,7 @@ fn said(o: Output, buf: &mut [u8; ROOM], kind: u16, value: &[u8], id: Transactio
     let v = t.value;
     match v {
         Value::Address { family, port } => address(o, buf, family, port, ip),
-        Value::Code { code } => error(o, buf, code, read_typed::part_of(kind, value)),
+        Value::Code(said) => error(o, buf, said, read_typed::part_of(kind, value)),
         Value::Plain => bytes(o, buf, read_typed::part_of(kind, value)),
         Value::Refused { number } => o.decimal(buf, number as u64),
     }

@@ -8,6 +8,7 @@ use crate::page::number;
 use big_endian::u16_at;
 use net::Family;
 use read_typed::Value;
+use registry::ErrorCode;
 use registry::Rule;
 use stun_io::parts::minus;
 use stun_io::parts::plus;
@@ -150,8 +151,9 @@ fn address(family: Family, port: u16, bytes: [u8; 16]) {
     decimal(port as u64);
 }
 
-// The code, what it means, and the phrase.
-fn code(n: u16, phrase: &[u8]) {
+// The code, what it means, the phrase, and the reserved bits where they aren't nought.
+fn code(error: ErrorCode, phrase: &[u8]) {
+    let n = error.code;
     let name = names::code(n);
     decimal(n as u64);
     if name.size != 0 {
@@ -160,6 +162,10 @@ fn code(n: u16, phrase: &[u8]) {
     }
     print(b", ");
     quoted(phrase);
+    if error.reserved != 0 {
+        print(b", reserved ");
+        decimal(error.reserved as u64);
+    }
 }
 
 fn kind_in_list(kind: u16, first: bool) {
@@ -234,7 +240,7 @@ pub fn said(d: &[u8], at: usize, kind: u16, value: &[u8], id: TransactionId, col
     let v = t.value;
     match v {
         Value::Address { family, port } => address(family, port, bytes),
-        Value::Code { code: n } => code(n, read_typed::part_of(kind, value)),
+        Value::Code(error) => code(error, read_typed::part_of(kind, value)),
         Value::Plain => plain(d, at, kind, value, colour),
         Value::Refused { number: n } => faulty(n, value, colour),
     }

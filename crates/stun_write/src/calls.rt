@@ -3,6 +3,7 @@ use crate::expected::Wanted;
 use crate::fields::bytes_of;
 use crate::fields::field;
 use crate::fields::low;
+use crate::fields::low_32;
 use crate::fields::types_of;
 use crate::kinds::is_address;
 use crate::kinds::is_text;
@@ -10,6 +11,7 @@ use digits::Number;
 use hex::Hex;
 use net::Family;
 use net::SocketAddr;
+use registry::ErrorCode;
 use stun_io::parts::part;
 use stun_io::words::is_comment;
 use stun_io::words::position;
@@ -96,7 +98,7 @@ fn fields_of(call: Call) -> [Wanted; FIELDS] {
             end,
         ],
         Call::Text => [Wanted::TextType, Wanted::Bytes, end, end, end],
-        Call::Error => [Wanted::Code, Wanted::Bytes, end, end, end],
+        Call::Error => [Wanted::Code, Wanted::Bytes, Wanted::Reserved, end, end],
         Call::Types => [Wanted::Types, end, end, end, end],
         Call::Integrity => [Wanted::Bytes, end, end, end, end],
         _ => [end, end, end, end, end],
@@ -118,6 +120,14 @@ fn bytes_at(t: &[u8], bytes: &mut [u8], at: u64) -> Number {
     size_of(bytes_of(t, &mut bytes[at as usize..]))
 }
 
+// The reserved bits of an error code, which need not be told.
+fn reserved_of(t: &[u8]) -> Number {
+    if t.len() == 0 {
+        return Number::Is(0);
+    }
+    digits::number_of(t)
+}
+
 // A field's number, or the size of its bytes, which go to the front or, as padding, behind those of the field before.
 fn number_of(t: &[u8], wanted: Wanted, before: u64, bytes: &mut [u8; LONGEST]) -> Number {
     match wanted {
@@ -125,6 +135,7 @@ fn number_of(t: &[u8], wanted: Wanted, before: u64, bytes: &mut [u8; LONGEST]) -
         Wanted::Padding => bytes_at(t, bytes, before),
         Wanted::Id | Wanted::Value | Wanted::Ip | Wanted::Bytes => bytes_at(t, bytes, 0),
         Wanted::Types => size_of(types_of(t, bytes)),
+        Wanted::Reserved => reserved_of(t),
         _ => digits::number_of(t),
     }
 }
@@ -247,11 +258,19 @@ fn address(t: Fields, bytes: &[u8], message: &mut [u8]) -> Written {
     addressed(low(t.first), t.second, low(t.third), ip, message)
 }
 
-// text TYPE HEX, error CODE HEX, types T,T,.., integrity HEX and fingerprint, with the bytes of the last field
+// error CODE HEX RESERVED
+fn error(t: Fields, bytes: &[u8], message: &mut [u8]) -> Written {
+    let error = ErrorCode {
+        code: low(t.first),
+        reserved: low_32(t.third),
+    };
+    write_error_code::append_error_code(message, error, part(bytes, 0, t.second as usize))
+}
+
+// text TYPE HEX, types T,T,.., integrity HEX and fingerprint, with the bytes of the last field
 fn added(call: Call, first: u64, last: &[u8], message: &mut [u8]) -> Written {
     match call {
         Call::Text => write_typed::append_text(message, low(first), last),
-        Call::Error => write_error_code::append_error_code(message, low(first), last),
         Call::Types => write_typed::append_unknown_attributes(message, last),
         Call::Integrity => write_close::append_message_integrity(message, last),
         _ => write_close::append_fingerprint(message),
@@ -264,9 +283,8 @@ fn made(call: Call, t: Fields, bytes: &[u8], message: &mut [u8]) -> Written {
         Call::Begin => begun(t, bytes, message),
         Call::Raw => raw(t, bytes, message),
         Call::Address => address(t, bytes, message),
-        Call::Text | Call::Error => {
-            added(call, t.first, part(bytes, 0, t.second as usize), message)
-        }
+        Call::Error => error(t, bytes, message),
+        Call::Text => added(call, t.first, part(bytes, 0, t.second as usize), message),
         _ => added(call, t.first, part(bytes, 0, t.first as usize), message),
     }
 }

@@ -24,6 +24,7 @@ pub enum Wanted {
     Code,
     Bytes,
     Types,
+    Reserved,
 }
 
 // The number of its line in the text below.
@@ -47,6 +48,7 @@ fn line_of(wanted: Wanted) -> usize {
         Wanted::Code => 15,
         Wanted::Bytes => 16,
         Wanted::Types => 17,
+        Wanted::Reserved => 18,
     }
 }
 
@@ -81,7 +83,8 @@ pub fn put_wanted(wanted: Wanted, o: Output, buf: &mut [u8; ROOM]) -> Output {
         padding, two hex digits a byte, - for none\n\
         a code, 300 to 699\n\
         two hex digits a byte, - for none\n\
-        types parted by commas, - for none\n";
+        types parted by commas, - for none\n\
+        the reserved bits, 0 to 2097151\n";
     o.faulty()
         .put(buf, b"? expected ")
         .put(buf, line(s, line_of(wanted)))

@@ -38,6 +38,14 @@ pub fn low(n: u64) -> u16 {
     n as u16
 }
 
+// The same in 32 bits.
+pub fn low_32(n: u64) -> u32 {
+    if 4294967295 < n {
+        return 4294967295;
+    }
+    n as u32
+}
+
 // The bytes that hex digits spell, `-` for none.
 pub fn bytes_of(t: &[u8], out: &mut [u8]) -> Hex {
     if t.len() == 0 {

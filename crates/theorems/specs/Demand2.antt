@@ -1,22 +1,22 @@
 -- DEMAND 2, in the words of docs/SCOPE.md ("Writing again what was read", "Writing: append"): what is read as whole, written again with its
--- padding, is the same bytes; a message within the rules, written, is read back; the walk visits what was appended; and typed values are
--- read as they were given. What each shuts out:
+-- padding, is the same bytes; a message within the rules, written, is read back; the walk visits what was appended; typed values are read as
+-- they were given, and an ERROR-CODE is written as it was read. What each shuts out:
 --   a reader that refuses all                 `read-back`: a message that is right is read as whole
 --   a reader that calls all whole             `written-again`: of 19 bytes, or of a body with a rest, it is false
 --   a writer that changes nothing             `read-back`, and `appended-read` for an append
 --   a walk of one attribute and then the end  `appended-read`, and `covers` and `visited` of Covers.antt
 --   a made-up count                           `read-back`, and `count-told` of Covers.antt
+--   reserved bits dropped, or displaced       `code-written-back`; displaced on both sides alike: P9 of Sheet.antt
+--   an append that refuses every error code   `code-taken`, and `code-written-back`
 --   a constant fingerprint                    `stretch` of Stretch.antt, which it makes false
-use Prim.Native.Nat.{ℕ, _+_, _*_, _/_, _%_, _≤_, _<_}
+use Prim.Native.Nat.{ℕ, _+_, _≤_, _<_}
 use mathlib.Core.List.{List, [], _∷_, _++_}
-use mathlib.Core.Bool.{Bool, true, false}
+use mathlib.Core.Bool.{true}
 use mathlib.Core.Path.{_≡_, refl, ap, _∙_}
 use native.Mathlib.Omega.{arith}
-use borrow.Author.Tests.{ltb-false}
-use lib.ListN.{length, take}
-use lib.Dec.{ltb}
-use Rattle.base.specs.Choice.{pick}
+use lib.ListN.{length, take, drop}
 use Rattle.base.specs.Bytes.{Bytes}
+use Rattle.utf8_spec.specs.Utf8.{isUtf8}
 use Rattle.wire.specs.declared.transaction_id.TransactionId.{TransactionId}
 use Rattle.net.specs.Net.{addrXor, addressValue, Sound}
 use Rattle.net.specs.declared.SocketAddr.{SocketAddr}
@@ -24,7 +24,11 @@ use Rattle.header.specs.Header.{frontOf}
 use Rattle.attribute.specs.Attribute.{Attr}
 use Rattle.attribute.specs.Visits.{Visits}
 use Rattle.registry.specs.Rows.{ruleNumber, rfc5389, look, ruleIn, ruleOf}
-use Rattle.registry.specs.Fault.{fault}
+use Rattle.registry.specs.ErrorCode.{codeOf, codeValue}
+use Rattle.registry.specs.ErrorCodeLaws.{read-in-range, written-as-read, read-as-written, value-right}
+use Rattle.registry.specs.Fault.{codeFault, ruleFault, fault}
+use Rattle.registry.specs.FaultLaws.{rule-passes}
+use Rattle.registry.specs.declared.ErrorCode.{ErrorCode}
 use Rattle.registry.specs.declared.Row.{Row}
 use Rattle.registry.specs.declared.Rule.{Rule}
 use Rattle.registry.specs.declared.Rule.the-variants as rule
@@ -33,7 +37,7 @@ use Rattle.read_message.specs.Reading.{readingOf}
 use Rattle.read_message.specs.Whole.{Whole}
 use Rattle.read_message.specs.WholeLaws.{told}
 use Rattle.read_message.specs.declared.Reading.{Reading}
-use Rattle.read_typed.specs.Typed.{codeOf, without, saidBy, readOf, typedOf, partBy, partOf}
+use Rattle.read_typed.specs.Typed.{without, saidBy, readOf, typedOf, partBy, partOf}
 use Rattle.read_typed.specs.TypedLaws.{fields, part}
 use Rattle.read_typed.specs.WrittenLaws as written
 use Rattle.read_typed.specs.declared.Value.the-variants.{Code, Plain}
@@ -45,8 +49,8 @@ use Rattle.write_typed.specs.Typed.{isRule, typed, refusal, textRefusal}
 use Rattle.write_typed.specs.TypedLaws.{no-fault, text-rule, text-right}
 use Rattle.write_address.specs.Address.{addressRefusal, given, addressAttr}
 use Rattle.write_address.specs.AddressLaws.{by-rule, address-entry, address-passes, given-long}
-use Rattle.write_error_code.specs.ErrorCode.{codeValue, codeRefusal}
-use Rattle.write_error_code.specs.ErrorCodeLaws.{code-right}
+use Rattle.write_error_code.specs.ErrorCode.{codeRefusal}
+use Rattle.write_error_code.specs.ErrorCodeLaws.{by-value, in-range, code-right}
 use Rattle.round_trip.specs.Message.{Message, bytesOf, messageOf, Shaped, write, Right, wholeWith}
 use Rattle.round_trip.specs.Whole as whole
 use Rattle.round_trip.specs.Appending as append
@@ -88,9 +92,9 @@ module _ (d : List ℕ) (h : Bytes d) where
   pub types-read : (v : List ℕ) {t : ℕ} → answer d (refusal rfc5389 0x000A v) (typed 0x000A v) ≡ Total t → Typed rfc5389 d (refusal rfc5389 0x000A v) 0x000A v t
   types-read v e = typed-read rfc5389 (refusal rfc5389 0x000A v) 0x000A v (omega arith) (no-fault rfc5389 0x000A v) e
 
-  pub code-read : (c : ℕ) (s : List ℕ) {t : ℕ} → answer d (codeRefusal rfc5389 c s) (typed 0x0009 (codeValue c s)) ≡ Total t
-      → Typed rfc5389 d (codeRefusal rfc5389 c s) 0x0009 (codeValue c s) t
-  code-read c s e = typed-read rfc5389 (codeRefusal rfc5389 c s) 0x0009 (codeValue c s) (omega arith) (code-right rfc5389 c s) e
+  pub code-read : (x : ErrorCode) (s : List ℕ) {t : ℕ} → answer d (codeRefusal rfc5389 x s) (typed 0x0009 (codeValue x s)) ≡ Total t
+      → Typed rfc5389 d (codeRefusal rfc5389 x s) 0x0009 (codeValue x s) t
+  code-read x s e = typed-read rfc5389 (codeRefusal rfc5389 x s) 0x0009 (codeValue x s) (omega arith) (code-right rfc5389 x s) e
 
   pub address-read : (k : ℕ) (a : SocketAddr) {t : ℕ} → k < 65536 → length (a .ip) ≡ 16
       → answer d (addressRefusal (ruleOf rfc5389 k)) (addressAttr rfc5389 d k a) ≡ Total t
@@ -140,25 +144,28 @@ unfolding addressRefusal given isRule ruleNumber look ruleIn
 the-addresses a id = (refl, refl, refl, refl, refl, refl)
 
 -- an error code with its phrase
-pub code-back : (c : ℕ) (s : List ℕ) (id : TransactionId) → codeRefusal rfc5389 c s ≡ 0
-    → (typedOf rfc5389 0x0009 (codeValue c s) id ≡ without (Code c)) × (partOf rfc5389 0x0009 (codeValue c s) ≡ s)
-unfolding codeRefusal codeValue typedOf partOf readOf partBy look ruleIn codeOf
-code-back c s id e = low (ltb c 300) refl e
-  where
-    number : 300 ≤ c → c ≤ 699 → c / 100 % 8 * 100 + c % 100 ≡ c
-    number l h = omega arith
+pub code-back : (e : ErrorCode) (s : List ℕ) (id : TransactionId) → codeRefusal rfc5389 e s ≡ 0
+    → (typedOf rfc5389 0x0009 (codeValue e s) id ≡ without (Code e)) × (partOf rfc5389 0x0009 (codeValue e s) ≡ s)
+unfolding readOf partBy look ruleIn codeValue
+code-back e s id z =
+    let f : fault rfc5389 0x0009 (codeValue e s) ≡ 0 = code-right rfc5389 e s z in
+    let b : codeOf (codeValue e s) ≡ e = read-as-written e s (in-range rfc5389 e s z .1) in
+    (fields rfc5389 0x0009 (codeValue e s) f id ∙ ap (λ (x : ErrorCode). without (Code x)) b, part rfc5389 0x0009 (codeValue e s) f)
 
-    both : 300 ≤ c → c ≤ 699 → fault rfc5389 0x0009 (0 ∷ 0 ∷ c / 100 ∷ c % 100 ∷ s) ≡ 0
-        → (typedOf rfc5389 0x0009 (0 ∷ 0 ∷ c / 100 ∷ c % 100 ∷ s) id ≡ without (Code c)) × (partOf rfc5389 0x0009 (0 ∷ 0 ∷ c / 100 ∷ c % 100 ∷ s) ≡ s)
-    both l h f = (rw (f, number l h), rw f)
+-- of which every code from 300 to 699, every reserved number of 21 bits and every phrase within the rule is taken
+pub code-taken : (e : ErrorCode) (s : List ℕ) → 300 ≤ e .code → e .code ≤ 699 → e .reserved ≤ 2097151 → length s ≤ 127 → isUtf8 s ≡ true
+    → codeRefusal rfc5389 e s ≡ 0
+unfolding refusal fault look
+code-taken e s l h r n t = by-value rfc5389 e s l h r ∙ simp (value-right e s l h n t)
 
-    high : 300 ≤ c → (b : Bool) → ltb 699 c ≡ b → _≡_ {A = ℕ} (pick b 23 (refusal rfc5389 0x0009 (0 ∷ 0 ∷ c / 100 ∷ c % 100 ∷ s))) 0
-        → (typedOf rfc5389 0x0009 (0 ∷ 0 ∷ c / 100 ∷ c % 100 ∷ s) id ≡ without (Code c)) × (partOf rfc5389 0x0009 (0 ∷ 0 ∷ c / 100 ∷ c % 100 ∷ s) ≡ s)
-    high l true p q = absurd (omega arith)
-    high l false p q = both l (ltb-false 699 c p) (no-fault rfc5389 0x0009 (0 ∷ 0 ∷ c / 100 ∷ c % 100 ∷ s) q)
-
-    low : (b : Bool) → ltb c 300 ≡ b
-        → _≡_ {A = ℕ} (pick b 23 (pick (ltb 699 c) 23 (refusal rfc5389 0x0009 (0 ∷ 0 ∷ c / 100 ∷ c % 100 ∷ s)))) 0
-        → (typedOf rfc5389 0x0009 (0 ∷ 0 ∷ c / 100 ∷ c % 100 ∷ s) id ≡ without (Code c)) × (partOf rfc5389 0x0009 (0 ∷ 0 ∷ c / 100 ∷ c % 100 ∷ s) ≡ s)
-    low true p q = absurd (omega arith)
-    low false p q = high (ltb-false c 300 p) (ltb 699 c) refl q
+-- and what typed reading gives of a value without fault, a typed append takes and writes as the same bytes
+pub code-written-back : (v : List ℕ) (id : TransactionId) → Bytes v → fault rfc5389 0x0009 v ≡ 0
+    → (typedOf rfc5389 0x0009 v id ≡ without (Code (codeOf v))) × (codeRefusal rfc5389 (codeOf v) (partOf rfc5389 0x0009 v) ≡ 0)
+    × (codeValue (codeOf v) (partOf rfc5389 0x0009 v) ≡ v)
+unfolding fault look ruleIn ruleFault readOf partBy refusal
+code-written-back v id h z =
+    let f : codeFault v ≡ 0 = rule-passes (look rfc5389 0x0009) v z in
+    let p : partOf rfc5389 0x0009 v ≡ drop 4 v = part rfc5389 0x0009 v z in
+    let same : codeValue (codeOf v) (partOf rfc5389 0x0009 v) ≡ v = ap (codeValue (codeOf v)) p ∙ written-as-read v h f in
+    let (l, g, r) = read-in-range v h f in
+    (fields rfc5389 0x0009 v z id, by-value rfc5389 (codeOf v) (partOf rfc5389 0x0009 v) l g r ∙ ap (refusal rfc5389 0x0009) same ∙ simp z, same)

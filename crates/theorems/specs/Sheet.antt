@@ -16,11 +16,12 @@ use Rattle.attribute.specs.Attribute.{padded, Attr, stop, more, parse}
 use Rattle.attribute.specs.Scan.{scan, scanned}
 use Rattle.utf8_spec.specs.Utf8.{isUtf8, goes}
 use Rattle.registry.specs.Rows.{rfc5389, look, entrySaid, ruleIn}
+use Rattle.registry.specs.ErrorCode.{codeOf}
 use Rattle.registry.specs.Fault.{fault, entryFault, ruleFault, addressFault, codeFault}
 use Rattle.read_fingerprints.specs.Fingerprints.{printFaults, printFault}
 use Rattle.read_message.specs.Reading.{answerSaid, readingOf, outcome, valueFaults}
 use Rattle.read_first.specs.First.{firstFrom, firstIn, isWhole, first, valueOf}
-use Rattle.read_typed.specs.Typed.{valueSaid, typedSaid, ipOf, addressOf, codeOf, saidBy, readOf, typedOf}
+use Rattle.read_typed.specs.Typed.{valueSaid, typedSaid, ipOf, addressOf, saidBy, readOf, typedOf}
 use Rattle.write_begin.specs.declared.Written.the-variants.{Total, Refused}
 use Rattle.write_plan.specs.Plan.{messageFault, covers, planOf}
 use Rattle.write_raw.specs.Append.{attr, answered, written, planFor, answer, appended}
@@ -97,7 +98,8 @@ sheet =
     ∷ keeps (0xC0 ∷ 0x01 ∷ 0x00 ∷ 0x01 ∷ 0x07 ∷ 0xAA ∷ 0xBB ∷ 0xCC ∷ []) (attr 0xC001 (0x07 ∷ []) (0xAA ∷ 0xBB ∷ 0xCC ∷ []))
     -- P9
     ∷ reads (error (0x00 ∷ 0x00 ∷ 0x06 ∷ 0x00 ∷ [])) (says 0 0 (3 ∷ 1 ∷ 1 ∷ []))
-    ∷ serves (error (0x00 ∷ 0x00 ∷ 0x06 ∷ 0x00 ∷ [])) 0x0009 (says 1 0 (600 ∷ replicate 16 0))
+    ∷ serves (error (0x00 ∷ 0x00 ∷ 0x06 ∷ 0x00 ∷ [])) 0x0009 (says 1 0 (600 ∷ 0 ∷ replicate 16 0))
+    ∷ serves (error (0xFF ∷ 0xFF ∷ 0xFE ∷ 0x00 ∷ [])) 0x0009 (says 1 0 (600 ∷ 2097151 ∷ replicate 16 0))
     ∷ reads (error (0x00 ∷ 0x00 ∷ 0x02 ∷ 0x00 ∷ [])) (says 1 13 (3 ∷ 1 ∷ 20 ∷ []))
     ∷ reads (error (0x00 ∷ 0x00 ∷ 0x03 ∷ 0x64 ∷ [])) (says 1 13 (3 ∷ 1 ∷ 20 ∷ []))
     -- P10
@@ -107,4 +109,4 @@ sheet =
 pub holds : Each sheet
 unfolding typeOf classOf methodOf answerSaid readingOf outcome scanned scan parse valueFaults printFaults printFault fault look ruleIn entryFault ruleFault addressFault codeFault isUtf8 goes headerFault frontFault be16 cookieAt same classNumbered idOf first firstIn firstFrom isWhole valueOf typedSaid valueSaid typedOf readOf saidBy addressOf codeOf ipOf put fitsAt laid addrXor xored entrySaid appended planFor planOf written answered messageFault covers
 holds =
-    ((refl, refl, refl), ((refl, refl, refl), ((refl, refl, refl), ((refl, refl, refl), ((refl, refl, refl), ((refl, refl, refl), ((refl, refl, refl), ((refl, refl, refl), (refl, (refl, (refl, (refl, (refl, (refl, (refl, ((refl, refl, refl), (refl, (refl, (refl, (refl, (longest, tt)))))))))))))))))))))
+    ((refl, refl, refl), ((refl, refl, refl), ((refl, refl, refl), ((refl, refl, refl), ((refl, refl, refl), ((refl, refl, refl), ((refl, refl, refl), ((refl, refl, refl), (refl, (refl, (refl, (refl, (refl, (refl, (refl, ((refl, refl, refl), (refl, (refl, (refl, (refl, (refl, (longest, tt))))))))))))))))))))))

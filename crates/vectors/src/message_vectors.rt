@@ -5,6 +5,7 @@ use read_integrity::check_integrity;
 use read_message::Answer;
 use read_realm::realm_to_use;
 use read_typed::Value;
+use registry::ErrorCode;
 use registry::errors::BadRequest;
 use registry::errors::ServerError;
 use registry::errors::StaleNonce;
@@ -15,6 +16,8 @@ use registry::methods::BINDING;
 use wire::transaction_id::TransactionId;
 
 const XOR_MAPPED_ADDRESS: u16 = 0x0020;
+
+const ERROR_CODE: u16 = 0x0009;
 
 fn put(s: &[u8]) {
     io::write_all(STDOUT_FILENO, s);
@@ -281,6 +284,36 @@ fn error(section: &[u8], code: u16, phrase: &[u8]) {
     put(b"\n");
 }
 
+// Behind a header of no attributes, in room for the longest of the values below.
+fn written_back(error: ErrorCode, phrase: &[u8]) {
+    let mut buf = *b"\x01\x11\x00\x00!\x12\xA4B\x00\x01\x02\x03\x04\x05\x06\x07\x08\x09\x0A\x0B\
+        ------------";
+    number(error.code as usize);
+    number(error.reserved as usize);
+    put(b" ");
+    write_error_code::append_error_code(&mut buf, error, phrase);
+    hex(&buf[20..]);
+    put(b"\n");
+}
+
+// The code and the reserved number of a value, and the attribute that they are written as with its phrase.
+fn reserved(section: &[u8], value: &[u8]) {
+    name(section, b"");
+    let id = TransactionId { bytes: [0; 12] };
+    let v = read_typed::value_of(ERROR_CODE, value, id).value;
+    match v {
+        Value::Code(error) => written_back(error, read_typed::part_of(ERROR_CODE, value)),
+        _ => put(b" no code\n"),
+    }
+}
+
+// The reserved bits: none (P9), all (P9), and some, with a phrase.
+fn reserved_bits() {
+    reserved(b"reserved_none", b"\x00\x00\x06\x00");
+    reserved(b"reserved_all", b"\xFF\xFF\xFE\x00");
+    reserved(b"reserved_some", b"\x5A\xA5\x5C\x01why");
+}
+
 // The named error codes, and the method.
 fn redirected() {
     error(b"error_300", TryAlternate::CODEPOINT, &TryAlternate::PHRASE);
@@ -321,5 +354,6 @@ pub fn run() {
     redirected();
     unauthorized();
     stale();
+    reserved_bits();
     binding();
 }

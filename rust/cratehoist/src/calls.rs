@@ -129,13 +129,14 @@ pub fn append_address(buffer: &mut [u8], kind: u16, address: Address) -> Written
     unsafe { sys::cratehoist_append_address(buffer.as_mut_ptr(), buffer.len(), kind, address) }
 }
 
-/// Appends ERROR-CODE.
-pub fn append_error_code(buffer: &mut [u8], code: u16, phrase: &[u8]) -> Written {
+/// Appends ERROR-CODE; the reserved number is 0 but for one that was read.
+pub fn append_error_code(buffer: &mut [u8], code: u16, reserved: u32, phrase: &[u8]) -> Written {
     unsafe {
         sys::cratehoist_append_error_code(
             buffer.as_mut_ptr(),
             buffer.len(),
             code,
+            reserved,
             phrase.as_ptr(),
             phrase.len(),
         )

@@ -108,6 +108,7 @@ pub struct Typed {
     pub family: u8,
     pub port: u16,
     pub code: u16,
+    pub reserved: u32,
     pub ip: [u8; 16],
     pub start: usize,
     pub size: usize,
@@ -199,6 +200,7 @@ extern "C" {
         buffer: *mut u8,
         buffer_size: usize,
         code: u16,
+        reserved: u32,
         phrase: *const u8,
         phrase_size: usize,
     ) -> Written;

@@ -193,6 +193,7 @@ fn values() {
         family: 1,
         port: 32853,
         code: 0,
+        reserved: 0,
         ip: ip([192, 0, 2, 1]),
         start: 0,
         size: 0,
@@ -203,11 +204,19 @@ fn values() {
         family: 0,
         port: 0,
         code: 600,
+        reserved: 0,
         ip: [0; 16],
         start: 4,
         size: 2,
     };
     assert_eq!(typed_value(0x0009, b"\0\0\x06\0no", NO_ID), code);
+    assert_eq!(
+        typed_value(0x0009, b"\xFF\xFF\xFE\0no", NO_ID),
+        Typed {
+            reserved: 2_097_151,
+            ..code
+        }
+    );
     assert_eq!(
         typed_value(0x8022, b"me", NO_ID),
         Typed {
@@ -321,7 +330,14 @@ fn writing() {
         }
     );
     assert_eq!(
-        append_error_code(&mut buffer, 420, b"no"),
+        append_error_code(&mut buffer, 420, 2_097_152, b"no"),
+        Written {
+            number: 23,
+            size: 0
+        }
+    );
+    assert_eq!(
+        append_error_code(&mut buffer, 420, 2_097_151, b"no"),
         Written {
             number: 0,
             size: 52
@@ -362,7 +378,7 @@ fn writing() {
             size: 0
         }
     );
-    let rest = "c0010001 07aabbcc 00090006 00000414 6e6f0000 000a0002 c0010000 00140001 72000000";
+    let rest = "c0010001 07aabbcc 00090006 fffffc14 6e6f0000 000a0002 c0010000 00140001 72000000";
     assert_eq!(hex(&buffer[32..68]), rest.replace(' ', ""));
     assert_eq!(read(&buffer[..100]).count, 7);
     assert_eq!(check_integrity(&buffer[..100], b"key"), 0);

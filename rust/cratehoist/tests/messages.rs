@@ -213,6 +213,24 @@ fn every_kind_written_and_read() {
     );
 }
 
+/// The reserved bits of an ERROR-CODE are none of the reader's business, and they come back.
+#[test]
+fn an_error_code_is_written_as_it_was_read() {
+    let (mut buffer, mut copy) = ([0; 64], [0; 64]);
+    let mut message = begun(&mut buffer);
+    let came = RawAttribute::new(AttributeType::new(0x0009), b"\x5A\xA5\x5C\x01no");
+    message.add_attribute(came).unwrap();
+    let read: ErrorCode = whole(message.as_bytes()).get_attribute().unwrap();
+    assert_eq!((read.code(), read.reserved()), (401, 742_571));
+    let unreserved = ErrorCode::new(401, "no").unwrap();
+    assert_ne!(read, unreserved);
+    assert_eq!(read, unreserved.with_reserved(742_571).unwrap());
+    let mut again = begun(&mut copy);
+    again.add_attribute(read).unwrap();
+    assert_eq!(again.as_bytes(), message.as_bytes());
+    assert_eq!(number(unreserved.with_reserved(2_097_152)), 23);
+}
+
 fn number<T>(r: Result<T, Error>) -> u8 {
     r.map_or_else(|e| e.number(), |_| 0)
 }

@@ -54,7 +54,7 @@ fn error_codes() {
         assert_eq!(named(calls::code_name(error.code())), error.reason_phrase());
     }
     let phrase = "a".repeat(200);
-    let same = |code: u16, phrase: &str| {
+    let same = |code: u16, reserved: u32, phrase: &str| {
         let mut buffer = [0; 300];
         calls::begin(
             &mut buffer,
@@ -62,14 +62,20 @@ fn error_codes() {
             sys::BINDING,
             calls::Id { bytes: [0; 12] },
         );
-        let number = ErrorCode::new(code, phrase).map_or_else(|e| e.number(), |_| 0);
+        let error = ErrorCode::new(code, phrase).and_then(|e| e.with_reserved(reserved));
+        let number = error.map_or_else(|e| e.number(), |_| 0);
         assert_eq!(
             number,
-            calls::append_error_code(&mut buffer, code, phrase.as_bytes()).number
+            calls::append_error_code(&mut buffer, code, reserved, phrase.as_bytes()).number
         );
     };
-    (0..=u16::MAX).for_each(|code| same(code, ""));
-    (0..=200).for_each(|size| same(300, &phrase[..size]));
+    (0..=u16::MAX).for_each(|code| same(code, 0, ""));
+    (0..=200).for_each(|size| same(300, 0, &phrase[..size]));
+    for bit in 0..32 {
+        same(300, (1 << bit) - 1, "");
+        same(300, 1 << bit, "");
+    }
+    same(300, u32::MAX, "");
 }
 
 #[test]

@@ -74,6 +74,7 @@ pub enum Typed {
     },
     Code {
         code: u16,
+        reserved: u32,
         phrase: Part,
     },
     Plain {

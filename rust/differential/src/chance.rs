@@ -92,9 +92,15 @@ pub fn append(r: &mut Random) -> Append {
             } else {
                 300 + r.pair() % 400
             };
+            let reserved = if r.one_in(4) {
+                r.pick(&[0, 1, 31, 32, 8191, 8192, 2_097_151, 2_097_152, u32::MAX])
+            } else {
+                messages::reserved(r)
+            };
             let size = messages::size(r);
             Append::Code {
                 code,
+                reserved,
                 phrase: messages::text(r, size),
             }
         }

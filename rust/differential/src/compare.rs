@@ -1,6 +1,6 @@
 //! Each call made on both sides with the same input. A difference ends the run and shows the input.
 
-use crate::answers::{Id, Reading, Walk, Written};
+use crate::answers::{Id, Reading, Typed, Walk, Written};
 use crate::random::Random;
 use crate::{ours, reader, sums, writer};
 use std::collections::BTreeMap;
@@ -87,13 +87,33 @@ impl Tally {
 
     pub fn typed(&mut self, kind: u16, value: &[u8], id: &Id) {
         let plain = reader::typed(kind, value, id);
+        let said = ours::typed(kind, value, id);
         self.same(
             "typed",
             reader::fault(kind, value),
             &[&kind.to_be_bytes(), value, id],
-            ours::typed(kind, value, id),
+            said,
             plain,
         );
+        // section 19: an ERROR-CODE, written typed, is the same value
+        if let Typed::Code {
+            code,
+            reserved,
+            phrase,
+        } = said
+        {
+            let mut buf = vec![0; 24 + value.len().next_multiple_of(4)];
+            let size = ours::begin(&mut buf, 3, 1, id)
+                .and_then(|_| ours::append_error_code(&mut buf, code, reserved, phrase.of(value)));
+            let back = (size, &buf[24..24 + value.len()]);
+            self.same(
+                "code written back",
+                0,
+                &[value],
+                back,
+                (Ok(buf.len()), value),
+            );
+        }
     }
 
     pub fn realm(&mut self, d: &[u8], configured: &[u8]) {
@@ -241,12 +261,16 @@ impl Tally {
                 |b| ours::append_unknown_attributes(b, types),
                 |b| writer::append_unknown_attributes(b, types),
             ),
-            Append::Code { code, phrase } => self.write(
+            Append::Code {
+                code,
+                reserved,
+                phrase,
+            } => self.write(
                 "append_error_code",
                 buf,
-                &[&code.to_be_bytes(), &phrase[..]].concat(),
-                |b| ours::append_error_code(b, *code, phrase),
-                |b| writer::append_error_code(b, *code, phrase),
+                &[&code.to_be_bytes(), &reserved.to_be_bytes()[..], phrase].concat(),
+                |b| ours::append_error_code(b, *code, *reserved, phrase),
+                |b| writer::append_error_code(b, *code, *reserved, phrase),
             ),
             Append::Address {
                 kind,
@@ -304,6 +328,7 @@ pub enum Append {
     },
     Code {
         code: u16,
+        reserved: u32,
         phrase: Vec<u8>,
     },
     Address {

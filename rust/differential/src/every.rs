@@ -156,12 +156,16 @@ pub fn texts(t: &mut Tally, longer: bool) {
     }
 }
 
-/// Every class and number of an ERROR-CODE, every family with each size of an address.
-pub fn values(t: &mut Tally) {
+/// Every class and number of an ERROR-CODE, the numbers of its reserved bits (all, if it may take longer), every family with each
+/// size of an address.
+pub fn values(t: &mut Tally, longer: bool) {
     for class in 0..=255 {
         for number in 0..=255 {
             t.typed(ERROR_CODE, &[class, number, class, number], &ID);
         }
+    }
+    for reserved in (0..=2_097_151u32).step_by(if longer { 1 } else { 127 }) {
+        t.typed(ERROR_CODE, &(reserved << 11 | 0x401).to_be_bytes(), &ID);
     }
     for kind in [MAPPED_ADDRESS, XOR_MAPPED_ADDRESS, ALTERNATE_SERVER] {
         for family in 0..=255 {
@@ -194,6 +198,7 @@ pub fn writing(t: &mut Tally) {
             &buf,
             &Append::Code {
                 code,
+                reserved: 0,
                 phrase: b"why".to_vec(),
             },
         );
@@ -229,8 +234,9 @@ fn appends() -> Vec<Append> {
         port: 32853,
         ip: *b"\xC0\x00\x02\x01and twelve..",
     };
-    let code = |code, phrase: &[u8]| Append::Code {
+    let code = |code, reserved, phrase: &[u8]| Append::Code {
         code,
+        reserved,
         phrase: phrase.to_vec(),
     };
     vec![
@@ -254,9 +260,11 @@ fn appends() -> Vec<Append> {
         address(ALTERNATE_SERVER, 1),
         address(ALTERNATE_SERVER, 3),
         address(SOFTWARE, 1),
-        code(299, b""),
-        code(401, b"no"),
-        code(699, b"\xFF"),
+        code(299, 0, b""),
+        code(401, 0, b"no"),
+        code(600, 2_097_151, b""),
+        code(600, 2_097_152, b""),
+        code(699, 0, b"\xFF"),
         Append::Fingerprint,
         Append::Integrity { key: b"k".to_vec() },
     ]
@@ -317,6 +325,7 @@ pub fn large(t: &mut Tally, r: &mut Random, step: usize) {
             &buf,
             &Append::Code {
                 code: 500,
+                reserved: 0,
                 phrase: vec![b'a'; size],
             },
         );

@@ -121,12 +121,16 @@ fn error_code(r: &mut Random) -> Vec<u8> {
         (3 + r.byte() % 4, r.byte() % 100)
     };
     let size = size(r);
-    let reserved = if r.one_in(3) { r.byte() & 0xF8 } else { 0 };
-    [
-        vec![r.byte(), r.byte(), class & 7 | reserved, number],
-        text(r, size),
-    ]
-    .concat()
+    let head = reserved(r) << 11 | u32::from(class % 8) << 8 | u32::from(number);
+    [head.to_be_bytes().to_vec(), text(r, size)].concat()
+}
+
+/// The 21 reserved bits of an ERROR-CODE, any of them, and often none, as RFC 5389 has it.
+pub fn reserved(r: &mut Random) -> u32 {
+    if r.one_in(3) {
+        return 0;
+    }
+    u32::from(r.pair()) << 5 | u32::from(r.byte() % 32)
 }
 
 /// A value of a type: good, or wrong in one way.

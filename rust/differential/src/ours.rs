@@ -96,7 +96,7 @@ pub fn typed(kind: u16, value: &[u8], id: &Id) -> Typed {
     };
     match (t.number, kind) {
         (0, MAPPED_ADDRESS | XOR_MAPPED_ADDRESS | ALTERNATE_SERVER) => {
-            assert_eq!((t.code, part), (0, Part::NONE));
+            assert_eq!((t.code, t.reserved, part), (0, 0, Part::NONE));
             Typed::Address {
                 family: t.family,
                 port: t.port,
@@ -107,15 +107,17 @@ pub fn typed(kind: u16, value: &[u8], id: &Id) -> Typed {
             assert_eq!(address, (0, 0, [0; 16]));
             Typed::Code {
                 code: t.code,
+                reserved: t.reserved,
                 phrase: part,
             }
         }
         (0, _) => {
-            assert_eq!((address, t.code), ((0, 0, [0; 16]), 0));
+            assert_eq!((address, t.code, t.reserved), ((0, 0, [0; 16]), 0, 0));
             Typed::Plain { part }
         }
         (number, _) => {
-            assert_eq!((address, t.code, part), ((0, 0, [0; 16]), 0, Part::NONE));
+            assert_eq!((address, part), ((0, 0, [0; 16]), Part::NONE));
+            assert_eq!((t.code, t.reserved), (0, 0));
             Typed::Wrong { number }
         }
     }
@@ -163,8 +165,8 @@ pub fn append_unknown_attributes(buf: &mut [u8], types: &[u8]) -> Written {
     written(calls::append_unknown_attributes(buf, types))
 }
 
-pub fn append_error_code(buf: &mut [u8], code: u16, phrase: &[u8]) -> Written {
-    written(calls::append_error_code(buf, code, phrase))
+pub fn append_error_code(buf: &mut [u8], code: u16, reserved: u32, phrase: &[u8]) -> Written {
+    written(calls::append_error_code(buf, code, reserved, phrase))
 }
 
 pub fn append_address(buf: &mut [u8], kind: u16, family: u8, port: u16, ip: &[u8; 16]) -> Written {

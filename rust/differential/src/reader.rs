@@ -324,6 +324,7 @@ pub fn typed(kind: u16, value: &[u8], id: &Id) -> Typed {
         }
         ERROR_CODE => Typed::Code {
             code: u16::from(value[2] % 8) * 100 + u16::from(value[3]),
+            reserved: u32::from_be_bytes([value[0], value[1], value[2], value[3]]) >> 11,
             phrase: Part {
                 start: 4,
                 size: value.len() - 4,

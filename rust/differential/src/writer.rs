@@ -72,12 +72,13 @@ pub fn append_unknown_attributes(buf: &mut [u8], types: &[u8]) -> Written {
     append_typed(buf, UNKNOWN_ATTRIBUTES, types)
 }
 
-pub fn append_error_code(buf: &mut [u8], code: u16, phrase: &[u8]) -> Written {
+pub fn append_error_code(buf: &mut [u8], code: u16, reserved: u32, phrase: &[u8]) -> Written {
     message(buf)?;
-    if code < 300 || code > 699 {
+    if code < 300 || code > 699 || reserved >= 1 << 21 {
         return Err(23);
     }
-    let head = [0, 0, (code / 100) as u8, (code % 100) as u8];
+    let head = reserved << 11 | u32::from(code / 100) << 8 | u32::from(code % 100);
+    let head = head.to_be_bytes();
     append_typed(buf, ERROR_CODE, &[&head, phrase].concat())
 }
 

@@ -110,10 +110,11 @@ impl Software<'static> {
     }
 }
 
-/// `ERROR-CODE` attribute.
+/// `ERROR-CODE` attribute. Two are equal where all of it is, the reserved bits too; what went wrong is told by the code.
 #[derive(Debug, Clone, Copy, PartialEq, Eq, Hash)]
 pub struct ErrorCode<'a> {
     code: u16,
+    reserved: u32,
     reason_phrase: &'a str,
 }
 impl<'a> ErrorCode<'a> {
@@ -129,10 +130,7 @@ impl<'a> ErrorCode<'a> {
     /// ```
     pub fn new(code: u16, reason_phrase: &'a str) -> Result<Self> {
         match (300..700).contains(&code) && reason_phrase.len() <= 127 {
-            true => Ok(ErrorCode {
-                code,
-                reason_phrase,
-            }),
+            true => Ok(ErrorCode::named(code, reason_phrase)),
             false => Err(Error::new(23, 0)),
         }
     }
@@ -140,13 +138,36 @@ impl<'a> ErrorCode<'a> {
     pub(crate) fn named(code: u16, reason_phrase: &'a str) -> Self {
         ErrorCode {
             code,
+            reserved: 0,
             reason_phrase,
+        }
+    }
+
+    /// The same with these reserved bits, 21 of them; a number above 2,097,151 is refused by 23. RFC 5389 has them 0, as they are
+    /// without this call.
+    ///
+    /// ```
+    /// use cratehoist::rfc5389::attributes::ErrorCode;
+    /// let error = ErrorCode::new(600, "").unwrap();
+    /// assert_eq!(error.reserved(), 0);
+    /// assert_eq!(error.with_reserved(2_097_151).unwrap().reserved(), 2_097_151);
+    /// assert_eq!(error.with_reserved(2_097_152).map_err(|e| e.number()), Err(23));
+    /// ```
+    pub fn with_reserved(self, reserved: u32) -> Result<Self> {
+        match reserved >> 21 {
+            0 => Ok(ErrorCode { reserved, ..self }),
+            _ => Err(Error::new(23, 0)),
         }
     }
 
     /// The code.
     pub fn code(&self) -> u16 {
         self.code
+    }
+
+    /// The reserved bits: of an attribute that was read, those that it came with. They mean nothing.
+    pub fn reserved(&self) -> u32 {
+        self.reserved
     }
 
     /// The phrase.
@@ -171,6 +192,7 @@ impl<'a> Attribute<'a> for ErrorCode<'a> {
         let said = typed(message, &raw, Self::CODEPOINT)?;
         Some(ErrorCode {
             code: said.code,
+            reserved: said.reserved,
             reason_phrase: text(&raw, &said)?,
         })
     }
@@ -178,7 +200,8 @@ impl<'a> Attribute<'a> for ErrorCode<'a> {
 impl Append for ErrorCode<'_> {
     fn append_to(&self, message: &mut MessageEncoder<'_>) -> Result<()> {
         message.write(|buffer| {
-            calls::append_error_code(buffer, self.code, self.reason_phrase.as_bytes())
+            let phrase = self.reason_phrase.as_bytes();
+            calls::append_error_code(buffer, self.code, self.reserved, phrase)
         })
     }
 }

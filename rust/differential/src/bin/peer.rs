@@ -89,7 +89,7 @@ fn append(buf: &mut [u8], attribute: &str, key: &[u8]) -> Fallible<usize> {
         match name {
             "error-code" => {
                 let (code, phrase) = value.split_once(':').ok_or("no phrase")?;
-                ours::append_error_code(buf, number(code, 10)?, phrase.as_bytes())
+                ours::append_error_code(buf, number(code, 10)?, 0, phrase.as_bytes())
             }
             "unknown-attributes" => {
                 ours::append_unknown_attributes(buf, &unhex(&value.replace(',', ""))?)
@@ -166,7 +166,9 @@ fn shown(d: &[u8], kind: u16, value: &[u8], id: &Id, key: &[u8]) -> Fallible<Str
         Typed::Address { family, port, ip } => {
             format!("{}={}", name_of(kind), socket(family, port, ip))
         }
-        Typed::Code { code, phrase } => format!("error-code={code}:{}", text(phrase.of(value))),
+        Typed::Code { code, phrase, .. } => {
+            format!("error-code={code}:{}", text(phrase.of(value)))
+        }
         Typed::Plain { .. } if kind == FINGERPRINT => "fingerprint".to_string(),
         Typed::Plain { .. } if kind == MESSAGE_INTEGRITY => match ours::check_integrity(d, key) {
             0 => "integrity".to_string(),
