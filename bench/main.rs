@@ -1,5 +1,6 @@
 //! Our calls beside their peers. `run NAME ..` times some of the parts only.
 mod crc32;
+mod error;
 mod lines;
 mod measure;
 mod plain;
@@ -13,11 +14,12 @@ fn main() {
     if wanted.first().is_some_and(|w| w == "--peer-lines") {
         return lines::peer().expect("a pipe");
     }
-    let parts: [(&str, fn()); 6] = [
+    let parts: [(&str, fn()); 7] = [
         ("crc32", crc32::run),
         ("sha", sha::run),
         ("utf8", utf8::run),
         ("reader", reader::run),
+        ("error", error::run),
         ("worst", worst::run),
         ("lines", lines::run),
     ];

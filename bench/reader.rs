@@ -38,7 +38,7 @@ struct SavedId {
 }
 
 #[repr(C)]
-struct Agent {
+pub struct Agent {
     compatibility: c_int,
     sent_ids: [SavedId; 200],
     known_attributes: *const u16,
@@ -48,7 +48,7 @@ struct Agent {
 }
 
 #[repr(C)]
-struct Message {
+pub struct Message {
     agent: *mut Agent,
     buffer: *mut u8,
     buffer_len: usize,
@@ -61,7 +61,7 @@ struct Message {
 const RFC5389: c_int = 1;
 const USE_FINGERPRINT: c_int = 1 << 2;
 const IGNORE_CREDENTIALS: c_int = 1 << 4;
-const SUCCESS: c_int = 0;
+pub const SUCCESS: c_int = 0;
 const KNOWN: [u16; 12] = [0x0001, 0x0006, 0x0008, 0x0009, 0x000A, 0x0014, 0x0015, 0x0020, 0x8022, 0x8023, 0x8028, 0];
 
 #[link(name = "nice")]
@@ -80,7 +80,7 @@ fn said(d: &[u8]) -> Said {
 }
 
 /// An agent that waits for the answer to the request of one ID.
-fn agent(id: &[u8]) -> Box<Agent> {
+pub fn agent(id: &[u8]) -> Box<Agent> {
     let mut a: Box<Agent> = unsafe { Box::new(std::mem::zeroed()) };
     unsafe { stun_agent_init(&mut *a, KNOWN.as_ptr(), RFC5389, USE_FINGERPRINT | IGNORE_CREDENTIALS) };
     a.sent_ids[0].id.copy_from_slice(id);
@@ -88,10 +88,14 @@ fn agent(id: &[u8]) -> Box<Agent> {
     a
 }
 
+pub fn message(a: &mut Agent, d: &mut [u8]) -> Message {
+    Message { agent: a, buffer: d.as_mut_ptr(), buffer_len: d.len(), key: null_mut(), key_len: 0, long_term_key: [0; 16], long_term_valid: false }
+}
+
 fn libnice(a: &mut Agent, d: &[u8]) -> bool {
     // an answer that is taken is waited for no more
     a.sent_ids[0].valid = true;
-    let mut m = Message { agent: null_mut(), buffer: null_mut(), buffer_len: 0, key: null_mut(), key_len: 0, long_term_key: [0; 16], long_term_valid: false };
+    let mut m = message(a, &mut []);
     unsafe { stun_agent_validate(a, &mut m, d.as_ptr(), d.len(), std::ptr::null(), null_mut()) == SUCCESS }
 }
 
