@@ -100,6 +100,7 @@ sheet =
     ∷ reads (error (0x00 ∷ 0x00 ∷ 0x06 ∷ 0x00 ∷ [])) (says 0 0 (3 ∷ 1 ∷ 1 ∷ []))
     ∷ serves (error (0x00 ∷ 0x00 ∷ 0x06 ∷ 0x00 ∷ [])) 0x0009 (says 1 0 (600 ∷ 0 ∷ replicate 16 0))
     ∷ serves (error (0xFF ∷ 0xFF ∷ 0xFE ∷ 0x00 ∷ [])) 0x0009 (says 1 0 (600 ∷ 2097151 ∷ replicate 16 0))
+    ∷ serves (error (0x5A ∷ 0xA5 ∷ 0x5C ∷ 0x01 ∷ [])) 0x0009 (says 1 0 (401 ∷ 742571 ∷ replicate 16 0))
     ∷ reads (error (0x00 ∷ 0x00 ∷ 0x02 ∷ 0x00 ∷ [])) (says 1 13 (3 ∷ 1 ∷ 20 ∷ []))
     ∷ reads (error (0x00 ∷ 0x00 ∷ 0x03 ∷ 0x64 ∷ [])) (says 1 13 (3 ∷ 1 ∷ 20 ∷ []))
     -- P10
@@ -109,4 +110,4 @@ sheet =
 pub holds : Each sheet
 unfolding typeOf classOf methodOf answerSaid readingOf outcome scanned scan parse valueFaults printFaults printFault fault look ruleIn entryFault ruleFault addressFault codeFault isUtf8 goes headerFault frontFault be16 cookieAt same classNumbered idOf first firstIn firstFrom isWhole valueOf typedSaid valueSaid typedOf readOf saidBy addressOf codeOf ipOf put fitsAt laid addrXor xored entrySaid appended planFor planOf written answered messageFault covers
 holds =
-    ((refl, refl, refl), ((refl, refl, refl), ((refl, refl, refl), ((refl, refl, refl), ((refl, refl, refl), ((refl, refl, refl), ((refl, refl, refl), ((refl, refl, refl), (refl, (refl, (refl, (refl, (refl, (refl, (refl, ((refl, refl, refl), (refl, (refl, (refl, (refl, (refl, (longest, tt))))))))))))))))))))))
+    ((refl, refl, refl), ((refl, refl, refl), ((refl, refl, refl), ((refl, refl, refl), ((refl, refl, refl), ((refl, refl, refl), ((refl, refl, refl), ((refl, refl, refl), (refl, (refl, (refl, (refl, (refl, (refl, (refl, ((refl, refl, refl), (refl, (refl, (refl, (refl, (refl, (refl, (longest, tt)))))))))))))))))))))))
