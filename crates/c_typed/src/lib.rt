@@ -1,6 +1,7 @@
 // What C calls: what a value says, and typed appends. A family that is none is refused by 23, behind 21. No reader is here, so that in
 // `c_read` and `c_value` the reader is the only caller of the rules, and the compiler puts them into its loop.
 ghost use mathlib.Core.Path.{_≡_};
+ghost use Prim.Native.Nat.{_-_};
 ghost use lib.ListN.{length};
 ghost use Rattle.registry.specs.Rows.{rfc5389};
 ghost use Rattle.registry.specs.ErrorCode.{codeValue};
@@ -23,7 +24,7 @@ use wire::transaction_id::TransactionId;
 use write_address::append_address;
 use write_typed::append_value;
 
-// What a value says, where `number` is 0; the part is one of the value.
+// What a value says, where `number` is 0; the part is one of the value, told from what it says, so that it is judged once.
 #[repr(C)]
 pub struct Typed {
     pub number: u8,
@@ -36,14 +37,22 @@ pub struct Typed {
     pub size: usize,
 }
 
+// The size of a phrase, which is what stands behind the first four bytes.
+fn behind_code(size: usize) -> usize
+    ensures { λ r. ⌜ r ≡ size - 4 ⌝ }
+{
+    if size < 4 {
+        return 0;
+    }
+    size - 4
+}
+
 #[no_mangle]
 pub extern "C" fn cratehoist_typed_value(kind: u16, value: &[u8], id: Id) -> Typed
     ensures { λ r. ⌜ r ≡ typedTold (typedOf rfc5389 kind (now (value .entry)) (record { bytes = id .bytes })) (partAt rfc5389 kind (now (value .entry))) (length (partOf rfc5389 kind (now (value .entry)))) ⌝ }
 {
     let bytes = id.bytes;
     let t = read_typed::value_of(kind, value, TransactionId { bytes: bytes });
-    let part = read_typed::part_of(kind, value);
-    let size = part.len();
     let ip = t.ip;
     let v = t.value;
     match v {
@@ -55,7 +64,7 @@ pub extern "C" fn cratehoist_typed_value(kind: u16, value: &[u8], id: Id) -> Typ
             reserved: 0,
             ip: ip,
             start: 0,
-            size,
+            size: 0,
         },
         Value::Code(error) => Typed {
             number: 0,
@@ -65,7 +74,7 @@ pub extern "C" fn cratehoist_typed_value(kind: u16, value: &[u8], id: Id) -> Typ
             reserved: error.reserved,
             ip: ip,
             start: 4,
-            size,
+            size: behind_code(value.len()),
         },
         Value::Plain => Typed {
             number: 0,
@@ -75,7 +84,7 @@ pub extern "C" fn cratehoist_typed_value(kind: u16, value: &[u8], id: Id) -> Typ
             reserved: 0,
             ip: ip,
             start: 0,
-            size,
+            size: value.len(),
         },
         Value::Refused { number } => Typed {
             number,
@@ -85,7 +94,7 @@ pub extern "C" fn cratehoist_typed_value(kind: u16, value: &[u8], id: Id) -> Typ
             reserved: 0,
             ip: ip,
             start: 0,
-            size,
+            size: 0,
         },
     }
 }
