@@ -2,6 +2,7 @@
 //! which know the code alone, and no phrase but their own.
 use crate::measure;
 use crate::reader::{self, Message, SUCCESS};
+use crate::worst::Written;
 use std::ffi::c_int;
 use std::hint::black_box;
 
@@ -23,12 +24,6 @@ struct Typed {
     reserved: u32,
     ip: [u8; 16],
     start: usize,
-    size: usize,
-}
-
-#[repr(C)]
-struct Written {
-    number: u8,
     size: usize,
 }
 

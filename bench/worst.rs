@@ -14,10 +14,9 @@ struct Part {
 }
 
 #[repr(C)]
-#[allow(dead_code)]
-struct Written {
-    number: u8,
-    size: usize,
+pub struct Written {
+    pub number: u8,
+    pub size: usize,
 }
 
 extern "C" {
