@@ -20,49 +20,35 @@ use Rattle.read_typed.specs.declared.Value.the-variants.{Address, Code, Plain, 
 use Rattle.read_typed.specs.declared.Typed as typed
 use Rattle.c_typed.specs.Typed.{typedOut, typedTold}
 
--- only an error code's part starts behind the value's front
+-- where the part starts, and its size, of what a value of n bytes says
 abbrev startIn : Value → ℕ
 startIn (Address f p) = 0
 startIn (Code e) = 4
 startIn Plain = 0
 startIn (Refused n) = 0
 
-starts-by : (b : Bool) (q : Rule) (v : List ℕ) (id : TransactionId) (n : ℕ)
-    → startIn (pick b (readOf q v id) (without (Refused n)) .value) ≡ pick b (startBy q) 0
-unfolding readOf saidBy startBy
-starts-by true rule.Address v id n = refl
-starts-by true rule.XorAddress v id n = refl
-starts-by true rule.Code v id n = refl
-starts-by true rule.Text v id n = refl
-starts-by true rule.Types v id n = refl
-starts-by true rule.Plain v id n = refl
-starts-by false q v id n = refl
-
--- and its size follows from what the value says and its size
 abbrev sizeIn : Value → ℕ → ℕ
 sizeIn (Address f p) n = 0
 sizeIn (Code e) n = n - 4
 sizeIn Plain n = n
 sizeIn (Refused m) n = 0
 
-sizes-by : (b : Bool) (q : Rule) (v : List ℕ) (id : TransactionId) (n : ℕ)
-    → sizeIn (pick b (readOf q v id) (without (Refused n)) .value) (length v) ≡ length (pick b (partBy q v) [])
-unfolding readOf saidBy partBy
-sizes-by true rule.Address v id n = refl
-sizes-by true rule.XorAddress v id n = refl
-sizes-by true rule.Code v id n = sym (length-drop 4 v)
-sizes-by true rule.Text v id n = refl
-sizes-by true rule.Types v id n = refl
-sizes-by true rule.Plain v id n = refl
-sizes-by false q v id n = refl
+parts-by : (b : Bool) (q : Rule) (v : List ℕ) (id : TransactionId) (n : ℕ)
+    → (startIn (pick b (readOf q v id) (without (Refused n)) .value) ≡ pick b (startBy q) 0)
+    × (sizeIn (pick b (readOf q v id) (without (Refused n)) .value) (length v) ≡ length (pick b (partBy q v) []))
+unfolding readOf saidBy startBy partBy
+parts-by true rule.Address v id n = (refl, refl)
+parts-by true rule.XorAddress v id n = (refl, refl)
+parts-by true rule.Code v id n = (refl, sym (length-drop 4 v))
+parts-by true rule.Text v id n = (refl, refl)
+parts-by true rule.Types v id n = (refl, refl)
+parts-by true rule.Plain v id n = (refl, refl)
+parts-by false q v id n = (refl, refl)
 
-sizes : (k : ℕ) (v : List ℕ) (id : TransactionId) → sizeIn (typedOf rfc5389 k v id .value) (length v) ≡ length (partOf rfc5389 k v)
-unfolding typedOf partOf
-sizes k v id = sizes-by (eqb (fault rfc5389 k v) 0) (ruleOf rfc5389 k) v id (fault rfc5389 k v)
-
-starts : (k : ℕ) (v : List ℕ) (id : TransactionId) → startIn (typedOf rfc5389 k v id .value) ≡ partAt rfc5389 k v
-unfolding typedOf partAt
-starts k v id = starts-by (eqb (fault rfc5389 k v) 0) (ruleOf rfc5389 k) v id (fault rfc5389 k v)
+parts : (k : ℕ) (v : List ℕ) (id : TransactionId)
+    → (startIn (typedOf rfc5389 k v id .value) ≡ partAt rfc5389 k v) × (sizeIn (typedOf rfc5389 k v id .value) (length v) ≡ length (partOf rfc5389 k v))
+unfolding typedOf partAt partOf
+parts k v id = parts-by (eqb (fault rfc5389 k v) 0) (ruleOf rfc5389 k) v id (fault rfc5389 k v)
 
 module _ (k : ℕ) (v : List ℕ) (id : TransactionId) {t : typed.Typed} (e : t ≡ typedOf rfc5389 k v id) where
   by-value : (x : Value) → t .value ≡ x
@@ -71,7 +57,7 @@ module _ (k : ℕ) (v : List ℕ) (id : TransactionId) {t : typed.Typed} (e : t 
   by-value x f =
       ap (λ (y : Value). typedOut (valueSaid y []) (t .ip) (startIn y) (sizeIn y (length v))) (sym f)
       ∙ ap (λ (z : typed.Typed). typedOut (valueSaid (z .value) []) (z .ip) (startIn (z .value)) (sizeIn (z .value) (length v))) e
-      ∙ ap₂ (λ (a n : ℕ). typedOut (valueSaid (typedOf rfc5389 k v id .value) []) (typedOf rfc5389 k v id .ip) a n) (starts k v id) (sizes k v id)
+      ∙ ap₂ (λ (a n : ℕ). typedOut (valueSaid (typedOf rfc5389 k v id .value) []) (typedOf rfc5389 k v id .ip) a n) (parts k v id .0) (parts k v id .1)
 
   pub address : {f : Family} {o n : ℕ} → t .value ≡ Address f o → n ≡ familyNumber f
       → record { number = 0; family = n; port = o; code = 0; reserved = 0; ip = t .ip; start = 0; size = 0 }

@@ -24,7 +24,7 @@ use wire::transaction_id::TransactionId;
 use write_address::append_address;
 use write_typed::append_value;
 
-// What a value says, where `number` is 0; the part is one of the value, told from what it says, so that it is judged once.
+// What a value says, where `number` is 0; the part is one of the value.
 #[repr(C)]
 pub struct Typed {
     pub number: u8,
@@ -47,6 +47,7 @@ fn behind_code(size: usize) -> usize
     size - 4
 }
 
+// The part is told from what the value says, so that it is judged once.
 #[no_mangle]
 pub extern "C" fn cratehoist_typed_value(kind: u16, value: &[u8], id: Id) -> Typed
     ensures { λ r. ⌜ r ≡ typedTold (typedOf rfc5389 kind (now (value .entry)) (record { bytes = id .bytes })) (partAt rfc5389 kind (now (value .entry))) (length (partOf rfc5389 kind (now (value .entry)))) ⌝ }

@@ -22,19 +22,14 @@ use Rattle.write_typed.specs.Typed.{typed, refusal}
 use Rattle.write_error_code.specs.ErrorCode.{codeRefusal}
 use Rattle.write_error_code.specs.ErrorCodeLaws as laws
 
--- four bytes of an array, and the phrase behind them
-bytes-of : (a b c d : ℕ) (s : List ℕ) {m : List ℕ} → length s ≤ 127 → m ≡ put (set (set (set (set (replicate 131 0) 0 a) 1 b) 2 c) 3 d) 4 s
-    → take (4 + length s) m ≡ take 4 (set (set (set (set (replicate 131 0) 0 a) 1 b) 2 c) 3 d) ++ s
-bytes-of a b c d s {m} l e =
-    let v : List ℕ = set (set (set (set (replicate 131 0) 0 a) 1 b) 2 c) 3 d in
-    let p : m ≡ take 4 v ++ s ++ drop (4 + length s) v = e ∙ put-laid v 4 s (omega arith) ∙ laid-is v 4 s (omega arith) in
-    ap (take (4 + length s)) p ∙ take-at (take 4 v ++ s) (drop (4 + length s) v) (4 + length s) (omega arith)
-
 pub code-bytes : (e : ErrorCode) (s : List ℕ) {m : List ℕ} → length s ≤ 127
     → m ≡ put (set (set (set (set (replicate 131 0) 0 (e .reserved / 8192)) 1 (e .reserved / 32 % 256)) 2 (e .reserved % 32 * 8 + e .code / 100)) 3 (e .code % 100)) 4 s
     → take (4 + length s) m ≡ codeValue e s
 unfolding codeValue
-code-bytes e s l p = bytes-of (e .reserved / 8192) (e .reserved / 32 % 256) (e .reserved % 32 * 8 + e .code / 100) (e .code % 100) s l p
+code-bytes e s {m} l p =
+    let v : List ℕ = set (set (set (set (replicate 131 0) 0 (e .reserved / 8192)) 1 (e .reserved / 32 % 256)) 2 (e .reserved % 32 * 8 + e .code / 100)) 3 (e .code % 100) in
+    let b : m ≡ take 4 v ++ s ++ drop (4 + length s) v = p ∙ put-laid v 4 s (omega arith) ∙ laid-is v 4 s (omega arith) in
+    ap (take (4 + length s)) b ∙ take-at (take 4 v ++ s) (drop (4 + length s) v) (4 + length s) (omega arith)
 
 -- an ERROR-CODE of more than 131 bytes
 above-131 : (v : List ℕ) → 131 < length v → fault rfc5389 0x0009 v ≡ 11
