@@ -174,9 +174,16 @@ pub fn request() -> Vec<u8> {
     d
 }
 
-/// Every cut and every change of a byte of three messages, with the length field made right again and as it was.
+/// A Binding request with a USERNAME of 300 bytes and no FINGERPRINT.
+pub fn long_name() -> Vec<u8> {
+    let mut d = header(0x0001);
+    attribute(&mut d, 0x0006, "museum:recorder-".repeat(19)[..300].as_bytes());
+    d
+}
+
+/// Every cut and every change of a byte of four messages, with the length field made right again and as it was.
 fn compare() {
-    for mut d in [response(), error(), request()] {
+    for mut d in [response(), error(), request(), long_name()] {
         assert_eq!(said(&d).number, 0);
         assert_eq!(said(&d), plain::read(&d));
         for n in 0..d.len() {
@@ -205,7 +212,8 @@ pub fn run() {
     wrong[40] ^= 1;
     assert!(!libnice(&mut a, &wrong) && ours(&wrong).number == 15);
     measure::row("read", d.len(), "libnice", || _ = black_box(ours(black_box(&d))), || _ = black_box(libnice(&mut a, black_box(&d))));
-    for (name, d) in [("response", response()), ("error", error()), ("request", request()), ("header", header(0x0001))] {
+    let rows = [("response", response()), ("error", error()), ("request", request()), ("long name", long_name()), ("header", header(0x0001))];
+    for (name, d) in rows {
         measure::row(&format!("read, {name}"), d.len(), "Rust by hand", || _ = black_box(ours(black_box(&d))), || {
             _ = black_box(plain::read(black_box(&d)))
         });

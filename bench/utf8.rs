@@ -22,12 +22,13 @@ fn text(of: &str, size: usize) -> String {
     s
 }
 
-const TEXTS: [(&str, &str); 5] = [
+const TEXTS: [(&str, &str); 6] = [
     ("ASCII", "The quick brown fox jumps over the lazy dog. "),
     ("Greek", "Όποιος ελεύθερα συλλογάται συλλογάται καλά. "),
     ("Korean", "키스의 고유조건은 입술끼리 만나야 하고. "),
     ("emoji", "😀😁😂🤣"),
     ("mixed", "aé漢😀, z"),
+    ("words", "Όποιος quick ελεύθερα brown συλλογάται jumps καλά over "),
 ];
 
 /// The answers agree on every text, cut at every place of its first 300 bytes and with every byte of them changed.
@@ -66,7 +67,7 @@ fn compare() {
 pub fn run() {
     measure::compared(compare);
     for (name, of) in TEXTS {
-        for size in [16, 120, 64 * 1024] {
+        for size in [11, 16, 120, 300, 64 * 1024] {
             let s = text(of, size);
             let b = s.as_bytes();
             measure::row(&format!("is_utf8, {name}"), b.len(), "str::from_utf8", || _ = black_box(is_utf8(black_box(b))), || {

@@ -1,5 +1,5 @@
 /* What libFuzzer runs over the C boundary: every call, on memory of exactly the lent size, and what must hold of the answers.
- * Built with -DLIE=1 or 2 it says once that there is a byte more to read or to write, which AddressSanitizer must catch. */
+ * Built with -DLIE=1, 2 or 3 it says once that there is a byte more to read or to write, which AddressSanitizer must catch. */
 #include <stdio.h>
 #include <stdlib.h>
 #include <string.h>
@@ -294,6 +294,32 @@ static void sealed(const uint8_t *bytes, size_t size)
     free(key.at);
     free(b.at);
     free(d.at);
+}
+
+/* A text, which ends where its memory does and starts anywhere. */
+static void text(size_t start, size_t size, size_t wrong)
+{
+    lent l = alone(NULL, 0, start + size);
+    if (size)
+        memset(l.at + start, 'a', size);
+    if (wrong < size)
+        l.at[start + wrong] = 0xFF;
+    const uint8_t *s = size ? l.at + start : NULL;
+    MUST(cratehoist_is_utf8(s, size + (LIE == 3 && size)) == (wrong == size));
+    MUST(cratehoist_refusal(CRATEHOIST_SOFTWARE, s, size) == (wrong == size ? 0 : 23));
+    free(l.at);
+}
+
+/* Before the first input: every text of up to 80 bytes of ASCII, right and with a wrong byte at each place. */
+int LLVMFuzzerInitialize(int *argc, char ***argv)
+{
+    (void)argc;
+    (void)argv;
+    for (size_t start = 0; start < 16; start++)
+        for (size_t size = 0; size <= 80; size++)
+            for (size_t wrong = 0; wrong <= size; wrong++)
+                text(start, size, wrong);
+    return 0;
 }
 
 /* Each input as it is, with its header made right so that the rest is reached too, and as a value in a message of ours. */

@@ -3,3 +3,4 @@ pub mod Determined
 pub mod Tails
 pub mod Rows
 pub mod Walk
+pub mod Marks

@@ -1,7 +1,7 @@
--- What `two`, `three` and `four` answer, by the bytes that they looked at. The tests are those of `right`.
+-- What `two`, `three` and `four`, and `is_pair`, `is_triple` and `is_quad` answer, by the bytes that they looked at. The tests are those of `right`.
 use Prim.Native.Nat.{ℕ, suc, _+_, _-_, _≤_, _<_}
 use mathlib.Core.List.{List, [], _∷_}
-use mathlib.Core.Bool.{Bool, true, false, _&&_, not, and-false}
+use mathlib.Core.Bool.{Bool, true, false, _&&_, not, and-false, and-true}
 use mathlib.Core.Path.{_≡_, refl, sym, ap, _∙_}
 use native.Mathlib.Omega.{arith}
 use lib.ListN.{length, getD, drop, length-drop}
@@ -46,12 +46,15 @@ unfolding behindAt
 behind-is q s at e = simp e
 
 -- too few bytes are left
-pub short : (s : List ℕ) (at : ℕ) (q : Sequence) → at < length s → length s - at < suc (length q) → 0 ≡ behindAt q s at
-short s at q h l = behind-not q s at (by (begins q (drop (at + 1) s)) refl)
+pub too-few : (q : Sequence) (s : List ℕ) (at : ℕ) → at ≤ length s → length s - at < length q → false ≡ begins q (drop at s)
+too-few q s at h l = by (begins q (drop at s)) refl
   where
-    by : (t : Bool) → begins q (drop (at + 1) s) ≡ t → t ≡ false
-    by true e = absurd (omega (arith, begins-fits q (drop (at + 1) s) e, length-drop (at + 1) s))
+    by : (t : Bool) → begins q (drop at s) ≡ t → false ≡ t
+    by true e = absurd (omega (arith, begins-fits q (drop at s) e, length-drop at s))
     by false e = refl
+
+pub short : (s : List ℕ) (at : ℕ) (q : Sequence) → at < length s → length s - at < suc (length q) → 0 ≡ behindAt q s at
+short s at q h l = behind-not q s at (sym (too-few q s (at + 1) (omega arith) (omega arith)))
 
 -- of at least k bytes, the second, the third or the fourth is wrong
 pub wrong-1 : (k : ℕ) → 2 ≤ k → (s : List ℕ) (at lo hi : ℕ) (q : Sequence) (t : Bool) → k ≤ length s - at → t ≡ test s (at + 1) lo hi → not t ≡ true
@@ -95,3 +98,43 @@ right-3 s at a z b y lo hi t u v n e f g h i j =
     (fine s (at + 1) (at + 2) a z (b to y ∷ lo to hi ∷ []) (omega arith) (omega arith) t e f
     ∙ fine s (at + 2) (at + 3) b y (lo to hi ∷ []) (omega arith) (omega arith) u g h
     ∙ fine s (at + 3) (at + 4) lo hi [] (omega arith) (omega arith) v i j ∙ begins-none (drop (at + 4) s))
+
+-- a whole row, where at least k bytes are left: its first byte is wrong, its second or third, or the last one decides
+pub first-wrong : (k : ℕ) → 1 ≤ k → (s : List ℕ) (at lo hi : ℕ) (q : Sequence) (t : Bool) → k ≤ length s - at → t ≡ test s at lo hi → not t ≡ true
+    → false ≡ begins (lo to hi ∷ q) (drop at s)
+first-wrong k g s at lo hi q t n e f = sym (wrong s at (at + 1) lo hi q (omega arith) (omega arith) t e f)
+
+pub second-wrong : (k : ℕ) → 2 ≤ k → (s : List ℕ) (at a z lo hi : ℕ) (q : Sequence) (t : Bool) → k ≤ length s - at → t ≡ test s (at + 1) lo hi → not t ≡ true
+    → false ≡ begins (a to z ∷ lo to hi ∷ q) (drop at s)
+second-wrong k g s at a z lo hi q t n e f =
+    sym (skip s at (at + 1) a z (lo to hi ∷ q) (omega arith) (omega arith) (wrong s (at + 1) (at + 2) lo hi q (omega arith) (omega arith) t e f))
+
+pub third-wrong : (s : List ℕ) (at a z b y lo hi : ℕ) (q : Sequence) (t : Bool) → 4 ≤ length s - at → t ≡ test s (at + 2) lo hi → not t ≡ true
+    → false ≡ begins (a to z ∷ b to y ∷ lo to hi ∷ q) (drop at s)
+third-wrong s at a z b y lo hi q t n e f =
+    sym
+    (skip s at (at + 1) a z (b to y ∷ lo to hi ∷ q) (omega arith) (omega arith)
+    (skip s (at + 1) (at + 2) b y (lo to hi ∷ q) (omega arith) (omega arith) (wrong s (at + 2) (at + 3) lo hi q (omega arith) (omega arith) t e f)))
+
+last : (s : List ℕ) (i lo hi : ℕ) (t : Bool) → i < length s → t ≡ test s i lo hi → begins (lo to hi ∷ []) (drop i s) ≡ t
+last s i lo hi t h e = next s i (i + 1) lo hi [] (omega arith) h ∙ rw (begins-none (drop (i + 1) s), e) (and-true (test s i lo hi))
+
+pub second-last : (s : List ℕ) (at a z lo hi : ℕ) (t u : Bool) → 2 ≤ length s - at → t ≡ test s at a z → not t ≡ false → u ≡ test s (at + 1) lo hi
+    → u ≡ begins (a to z ∷ lo to hi ∷ []) (drop at s)
+second-last s at a z lo hi t u n e f g =
+    sym (fine s at (at + 1) a z (lo to hi ∷ []) (omega arith) (omega arith) t e f ∙ last s (at + 1) lo hi u (omega arith) g)
+
+pub third-last : (s : List ℕ) (at a z b y lo hi : ℕ) (t u v : Bool) → 3 ≤ length s - at → t ≡ test s at a z → not t ≡ false → u ≡ test s (at + 1) b y → not u ≡ false
+    → v ≡ test s (at + 2) lo hi → v ≡ begins (a to z ∷ b to y ∷ lo to hi ∷ []) (drop at s)
+third-last s at a z b y lo hi t u v n e f g h i =
+    sym
+    (fine s at (at + 1) a z (b to y ∷ lo to hi ∷ []) (omega arith) (omega arith) t e f
+    ∙ fine s (at + 1) (at + 2) b y (lo to hi ∷ []) (omega arith) (omega arith) u g h ∙ last s (at + 2) lo hi v (omega arith) i)
+
+pub fourth-last : (s : List ℕ) (at a z b y c x lo hi : ℕ) (t u v w : Bool) → 4 ≤ length s - at → t ≡ test s at a z → not t ≡ false → u ≡ test s (at + 1) b y
+    → not u ≡ false → v ≡ test s (at + 2) c x → not v ≡ false → w ≡ test s (at + 3) lo hi → w ≡ begins (a to z ∷ b to y ∷ c to x ∷ lo to hi ∷ []) (drop at s)
+fourth-last s at a z b y c x lo hi t u v w n e f g h i j k =
+    sym
+    (fine s at (at + 1) a z (b to y ∷ c to x ∷ lo to hi ∷ []) (omega arith) (omega arith) t e f
+    ∙ fine s (at + 1) (at + 2) b y (c to x ∷ lo to hi ∷ []) (omega arith) (omega arith) u g h
+    ∙ fine s (at + 2) (at + 3) c x (lo to hi ∷ []) (omega arith) (omega arith) v i j ∙ last s (at + 3) lo hi w (omega arith) k)

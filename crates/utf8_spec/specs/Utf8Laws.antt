@@ -189,6 +189,11 @@ utf8-char {c} s h =
     let e : width (c ++ s) ≡ length c = width-char s h in
     utf8-width (c ++ s) (omega (arith, char-some h)) ∙ ap (λ (k : ℕ). isUtf8 (drop k (c ++ s))) e ∙ ap isUtf8 (drop-append-seam c s)
 
+-- and so does a row of the grammar that bytes begin with
+pub utf8-row : {q : Sequence} (s : List ℕ) → OneOf q UTF8-char → begins q s ≡ true → isUtf8 (drop (length q) s) ≡ isUtf8 s
+utf8-row {q} s m e =
+    sym (ap isUtf8 (sym (take-append-drop (length q) s)) ∙ utf8-char (drop (length q) s) (is m (begins-has q s e)))
+
 -- THE GRAMMAR AND THE YES OR NO AGREE
 pub octets-yes : {s : List ℕ} → Octets s → isUtf8 s ≡ true
 octets-yes end = utf8-empty

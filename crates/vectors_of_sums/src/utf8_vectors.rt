@@ -1,4 +1,4 @@
-// UTF-8: RFC 3629's own examples, the ends of every range of its grammar, sequences cut short, and a long text.
+// UTF-8: RFC 3629's own examples, the ends of every range of its grammar, sequences cut short, a long text, and a wrong byte at each place.
 use libc::STDOUT_FILENO;
 
 fn answer(yes: bool) {
@@ -103,6 +103,17 @@ fn long() {
     );
 }
 
+// Forty bytes of ASCII, which are passed over several at a step, and the same with FF at each place.
+fn steps() {
+    let mut s = [b'a'; 40];
+    check(&s);
+    for i in 0..40 {
+        s[i] = 0xFF;
+        check(&s);
+        s[i] = b'a';
+    }
+}
+
 pub fn run() {
     // section 7
     text(b"not_identical", b"A\xE2\x89\xA2\xCE\x91.");
@@ -113,4 +124,5 @@ pub fn run() {
     ends();
     beside();
     cut();
+    steps();
 }

@@ -54,6 +54,10 @@ impl Tally {
         self.same("crc32", 0, &[s], ours::crc32(s), sums::crc32(s));
         self.same("sha1", 0, &[s], ours::sha1(s), sums::sha1(s));
         self.same("hmac", 0, &[key, s], ours::hmac(key, s), sums::hmac(key, s));
+        self.utf8(s);
+    }
+
+    pub fn utf8(&mut self, s: &[u8]) {
         self.same("is_utf8", 0, &[s], ours::is_utf8(s), reader::is_utf8(s));
     }
 

@@ -131,7 +131,8 @@ const EDGES: [u8; 27] = [
     0xED, 0xEE, 0xEF, 0xF0, 0xF1, 0xF3, 0xF4, 0xF5, 0xF7, 0xF8, 0xFF,
 ];
 
-/// Every text of one and two bytes; over the edges those of three, and of four if it may take longer.
+/// Every text of one and two bytes; over the edges those of three, and of four if it may take longer. In longer ones, which are passed
+/// over several bytes at a step, an edge at every place, wherever the text starts.
 pub fn texts(t: &mut Tally, longer: bool) {
     let all: Vec<u8> = (0..=255).collect();
     let mut one = |text: &[u8]| {
@@ -144,13 +145,27 @@ pub fn texts(t: &mut Tally, longer: bool) {
     if longer {
         lists(&EDGES, 4, &mut one);
     }
-    // a fault anywhere in a text that is long enough for steps of several bytes
-    for size in [31, 32, 33, 63, 64, 65, 127] {
-        for at in 0..size {
-            for byte in [0x80, 0xC2, 0xE2, 0xF0, 0xFF] {
-                let mut text = vec![b'a'; size];
-                text[at] = byte;
-                one(&text);
+    for text in ["a", "άλφα beta ", "갸, 나"].map(|text| text.repeat(128)) {
+        for size in (0..=40).chain([63, 64, 65, 127]) {
+            one(&text.as_bytes()[..size]);
+            for at in 0..size {
+                for edge in EDGES {
+                    let mut changed = text.as_bytes()[..size].to_vec();
+                    changed[at] = edge;
+                    one(&changed);
+                }
+            }
+        }
+    }
+    for start in 0..16 {
+        for size in 0..=80 {
+            let mut around = vec![0xFF; 16 + 80 + 16];
+            around[start..start + size].fill(b'a');
+            t.utf8(&around[start..start + size]);
+            for at in start..start + size {
+                around[at] = 0xFF;
+                t.utf8(&around[start..start + size]);
+                around[at] = b'a';
             }
         }
     }

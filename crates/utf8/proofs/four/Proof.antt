@@ -26,11 +26,14 @@ four-spec =
     (λ c. search needs)
     returns
     (λ c. search needs)
+    (λ c. search needs)
     (λ c κs. search needs)
     returns-2
     (λ c. search needs)
+    (λ c. search needs)
     (λ c κs. search needs)
     returns-3
+    (λ c. search needs)
     (λ c. search needs)
     (λ c κs. search needs)
     returns-4

@@ -1,5 +1,4 @@
 use Rattle.utf8.proofs.Tails.{low-enough, too-low}
-use borrow.Author.Needs.{needs}
 use Rattle.utf8.proofs.right.Statement.{statement}
 use Rattle.utf8.proofs.right.Tie as tie
 
@@ -10,4 +9,4 @@ returns-2 : tie.Need-returns-2
 returns-2 c = search (too-low)
 
 pub right-spec : {M : Type 1} → statement M
-right-spec = tie.close (tie.spec (λ c. search needs) returns returns-2)
+right-spec = tie.close (tie.spec returns returns-2)

@@ -23,8 +23,10 @@ three-spec =
     (λ c. search needs)
     returns
     (λ c. search needs)
+    (λ c. search needs)
     (λ c κs. search needs)
     returns-2
+    (λ c. search needs)
     (λ c. search needs)
     (λ c κs. search needs)
     returns-3

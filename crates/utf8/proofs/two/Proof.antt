@@ -20,6 +20,7 @@ two-spec =
     (λ c. search needs)
     returns
     (λ c. search needs)
+    (λ c. search needs)
     (λ c κs. search needs)
     returns-2
     returns-3)
