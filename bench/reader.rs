@@ -175,7 +175,7 @@ pub fn request() -> Vec<u8> {
 }
 
 /// A Binding request with a USERNAME of 300 bytes and no FINGERPRINT.
-pub fn long_name() -> Vec<u8> {
+fn long_name() -> Vec<u8> {
     let mut d = header(0x0001);
     attribute(&mut d, 0x0006, "museum:recorder-".repeat(19)[..300].as_bytes());
     d

@@ -17,9 +17,6 @@ use Rattle.utf8.specs.Steps.{ones, On, Past}
 pub here : (s : List ℕ) (i : ℕ) → i ≤ length s → On s i i
 here s i h = record { onward = omega arith; within = h; same = refl }
 
-pub start : (s : List ℕ) → On s 0 0
-start s = here s 0 (omega arith)
-
 pub on-on : {s : List ℕ} {i j k : ℕ} → On s i j → On s j k → On s i k
 on-on x y = record { onward = omega (arith, x .onward, y .onward); within = y .within; same = y .same ∙ x .same }
 

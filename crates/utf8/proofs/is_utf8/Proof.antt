@@ -1,4 +1,4 @@
-use Rattle.utf8.proofs.Walk.{start, fits, past-char, stop, turned, done}
+use Rattle.utf8.proofs.Walk.{here, fits, past-char, stop, turned, done}
 use Rattle.utf8.specs.Steps.{On, Past}
 use lib.ListN.{length}
 use native.Mathlib.Omega.{arith}
@@ -15,7 +15,7 @@ abbrev μ-loop : tie.MeasureT-loop
 μ-loop s i₀ i = length s - i
 
 loop-holds : tie.Need-loop-holds Inv-loop μ-loop
-loop-holds c = search (start)
+loop-holds c = here _ _ (omega arith)
 
 returns : tie.Need-returns Inv-loop μ-loop
 returns c = search (stop)

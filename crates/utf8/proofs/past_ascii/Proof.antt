@@ -34,23 +34,8 @@ loop-holds c = here _ _ (omega arith)
 loop2-holds : tie.Need-loop2-holds Inv-loop2 μ-loop2 Inv-loop μ-loop Inv-loop3 μ-loop3
 loop2-holds c = (search needs, search (on-ones 8))
 
-loop-less : tie.Need-loop-less Inv-loop2 μ-loop2 Inv-loop μ-loop Inv-loop3 μ-loop3
-loop-less c = search needs
-
-loop-again : tie.Need-loop-again Inv-loop2 μ-loop2 Inv-loop μ-loop Inv-loop3 μ-loop3
-loop-again c = search needs
-
-loop-less-2 : tie.Need-loop-less-2 Inv-loop2 μ-loop2 Inv-loop μ-loop Inv-loop3 μ-loop3
-loop-less-2 c = search needs
-
-loop-again-2 : tie.Need-loop-again-2 Inv-loop2 μ-loop2 Inv-loop μ-loop Inv-loop3 μ-loop3
-loop-again-2 c = search needs
-
 loop2-again : tie.Need-loop2-again Inv-loop2 μ-loop2 Inv-loop μ-loop Inv-loop3 μ-loop3
 loop2-again c = (search needs, on-ones 32 (c .before .before .before .loop2 .inv .1) (c .before .ascii-32 .ensures) (c .if4 .taken))
-
-loop3-holds : tie.Need-loop3-holds Inv-loop2 μ-loop2 Inv-loop μ-loop Inv-loop3 μ-loop3
-loop3-holds c = search needs
 
 loop3-again : tie.Need-loop3-again Inv-loop2 μ-loop2 Inv-loop μ-loop Inv-loop3 μ-loop3
 loop3-again c = search (on-later)
@@ -83,14 +68,14 @@ past-ascii-spec =
     loop2-holds
     (λ c. search needs)
     (λ c κs. search needs)
-    loop-less
-    loop-again
-    loop-less-2
-    loop-again-2
+    (λ c. search needs)
+    (λ c. search needs)
+    (λ c. search needs)
+    (λ c. search needs)
     (λ c. search needs)
     (λ c. search needs)
     loop2-again
-    loop3-holds
+    (λ c. search needs)
     (λ c. search needs)
     (λ c. search needs)
     (λ c. search needs)
