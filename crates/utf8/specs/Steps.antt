@@ -10,13 +10,13 @@ unfoldable pub ones : ℕ → Sequence
 ones zero = []
 ones (suc n) = 0x00 to 0x7F ∷ ones n
 
--- whole characters stand from i to j, so that what follows j decides
+-- the bytes from j on are UTF-8 exactly if those from i on are, as where whole characters stand between the two
 pub record On (s : List ℕ) (i j : ℕ) : Type 0 where
   pub onward : i ≤ j
   pub within : j ≤ length s
   pub same : isUtf8 (drop j s) ≡ isUtf8 (drop i s)
 
--- and there is at least one
+-- and j is the later
 pub record Past (s : List ℕ) (i j : ℕ) : Type 0 where
   pub some : i < j
   pub on : On s i j

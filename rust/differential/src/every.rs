@@ -132,7 +132,7 @@ const EDGES: [u8; 27] = [
 ];
 
 /// Every text of one and two bytes; over the edges those of three, and of four if it may take longer. In longer ones, which are passed
-/// over several bytes at a step, an edge at every place, wherever the text starts.
+/// over several bytes at a step, an edge at every place, and in ASCII 0xFF at every place, wherever the text starts.
 pub fn texts(t: &mut Tally, longer: bool) {
     let all: Vec<u8> = (0..=255).collect();
     let mut one = |text: &[u8]| {
