@@ -1,4 +1,6 @@
 // One attribute, and the walk from attribute to attribute by place.
+#![tactic(auto)]
+
 ghost use Rattle.std.specs.Prelude.{◌≡◌, ◌<◌};
 ghost use Rattle.attribute.specs.Attribute.{padded};
 ghost use Rattle.attribute.specs.Walk.{walk_said, step_at, walk_at};
@@ -7,7 +9,7 @@ use big_endian::u16_at;
 use header::Head;
 
 // What stands at a place: an attribute, whose value is `size` bytes from `value` on and whose padding ends at `next`; the end; or the cut.
-#[derive(Drop)]
+#[derive(Clone, Copy)]
 pub enum Walk {
     Attribute {
         at: usize,
@@ -25,7 +27,7 @@ pub enum Walk {
 }
 
 // What judging the attributes one after the other comes to: how many passed, or the first fault with its place.
-#[derive(Drop)]
+#[derive(Clone, Copy)]
 pub enum Scan {
     Passed { count: usize },
     Fault { reason: u8, place: usize },

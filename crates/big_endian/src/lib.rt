@@ -1,4 +1,6 @@
 // Big-endian numbers at a place.
+#![tactic(auto)]
+
 ghost use Rattle.std.specs.Prelude.{◌≡◌};
 ghost use Rattle.big_endian.specs.Numbers.{be16, be32};
 

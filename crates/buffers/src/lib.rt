@@ -1,4 +1,6 @@
 // Bytes and big-endian numbers put into a lent buffer.
+#![tactic(auto)]
+
 ghost use Rattle.std.specs.Prelude.{◌≡◌, ◌+◌, ◌≤◌, length, leb};
 ghost use Rattle.base.specs.Laid.{laid};
 ghost use Rattle.big_endian.specs.Numbers.{two, four};

@@ -1,4 +1,6 @@
 // What C calls: names for a person.
+#![tactic(auto)]
+
 ghost use Rattle.std.specs.Prelude.{◌≡◌};
 ghost use Rattle.names.specs.Names.{attribute_name, code_name, number_name, method_name};
 ghost use Rattle.c_names.specs.Name.{told, class_told};
@@ -8,7 +10,7 @@ use wire::types::class_numbered;
 
 // The first `size` bytes of the text; empty where there is no name.
 #[repr(C)]
-#[derive(Drop)]
+#[derive(Clone, Copy)]
 pub struct Name {
     pub text: [u8; 32],
     pub size: usize,

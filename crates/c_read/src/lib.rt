@@ -1,4 +1,6 @@
 // What C calls: the reading and the walk, in numbers.
+#![tactic(auto)]
+
 ghost use Rattle.std.specs.Prelude.{◌≡◌};
 ghost use Rattle.registry.specs.Rows.{rfc5389};
 ghost use Rattle.attribute.specs.Walk.{walk_said, walk_at};
@@ -10,7 +12,7 @@ use read_message::Answer;
 
 // `what` is 0 for whole, 1 for broken and 2 for refused; `number` is 0 where whole.
 #[repr(C)]
-#[derive(Drop)]
+#[derive(Clone, Copy)]
 pub struct Reading {
     pub what: u8,
     pub number: u8,
@@ -23,7 +25,7 @@ pub struct Reading {
 
 // `what` is 0 for an attribute, 1 for the end and 2 for the cut.
 #[repr(C)]
-#[derive(Drop)]
+#[derive(Clone, Copy)]
 pub struct Step {
     pub what: u8,
     pub kind: u16,

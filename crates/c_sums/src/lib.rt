@@ -1,4 +1,6 @@
 // What C calls: sums, and text that is checked. Each is the library's call under a plain name.
+#![tactic(auto)]
+
 ghost use Rattle.std.specs.Prelude.{◌≡◌, take};
 ghost use Rattle.crc.specs.Crc.{crc32_of};
 ghost use Rattle.utf8_spec.specs.Utf8.{is_utf8};
@@ -7,7 +9,7 @@ ghost use Rattle.hmac.specs.Hmac.{hmac_of};
 ghost use Rattle.big_endian.specs.Numbers.{with_length};
 
 #[repr(C)]
-#[derive(Drop)]
+#[derive(Clone, Copy)]
 pub struct Digest {
     pub bytes: [u8; 20],
 }

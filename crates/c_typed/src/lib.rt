@@ -1,5 +1,7 @@
 // What C calls: what a value says, and typed appends. A family that is none is refused by 23, behind 21. No reader is here, so that in
 // `c_read` and `c_value` the reader is the only caller of the rules, and the compiler puts them into its loop.
+#![tactic(auto)]
+
 ghost use Rattle.std.specs.Prelude.{◌≡◌, ◌-◌, length};
 ghost use Rattle.registry.specs.Rows.{rfc5389};
 ghost use Rattle.registry.specs.ErrorCode.{code_value};
@@ -22,7 +24,7 @@ use write_typed::append_value;
 
 // What a value says, where `number` is 0; the part is one of the value.
 #[repr(C)]
-#[derive(Drop)]
+#[derive(Clone, Copy)]
 pub struct Typed {
     pub number: u8,
     pub family: u8,

@@ -1,5 +1,7 @@
 // What C calls: the first attribute of a type, the realm to use, and the check of MESSAGE-INTEGRITY.
 // A part is told by where it starts in the lent bytes, and its size.
+#![tactic(auto)]
+
 ghost use Rattle.std.specs.Prelude.{◌≡◌};
 ghost use Rattle.registry.specs.Rows.{rfc5389};
 ghost use Rattle.read_first.specs.First.{first_said, first_in, first, placed};
@@ -7,7 +9,7 @@ ghost use Rattle.read_integrity.specs.Integrity.{integrity_fault};
 ghost use Rattle.c_value.specs.Part.{first_out, value_in, realm_in};
 // Where the first attribute of a type starts, and the size of its value.
 #[repr(C)]
-#[derive(Drop)]
+#[derive(Clone, Copy)]
 pub struct First {
     pub there: bool,
     pub place: usize,
@@ -15,7 +17,7 @@ pub struct First {
 }
 
 #[repr(C)]
-#[derive(Drop)]
+#[derive(Clone, Copy)]
 pub struct Part {
     pub there: bool,
     pub start: usize,

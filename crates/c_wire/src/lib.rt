@@ -1,4 +1,6 @@
 // What C calls: the XOR form of an address; and the structs that the other crates for C share. A family is a number there.
+#![tactic(auto)]
+
 ghost use Rattle.std.specs.Prelude.{◌≡◌};
 ghost use Rattle.c_wire.specs.XorForm.{formed, form_of};
 
@@ -7,14 +9,14 @@ use wire::transaction_id::TransactionId;
 
 // A transaction ID.
 #[repr(C)]
-#[derive(Drop)]
+#[derive(Clone, Copy)]
 pub struct Id {
     pub bytes: [u8; 12],
 }
 
 // An address; an IP of 4 bytes stands in the first four.
 #[repr(C)]
-#[derive(Drop)]
+#[derive(Clone, Copy)]
 pub struct Address {
     pub family: u8,
     pub port: u16,
@@ -23,7 +25,7 @@ pub struct Address {
 
 // An address in the other form, where `number` is 0.
 #[repr(C)]
-#[derive(Drop)]
+#[derive(Clone, Copy)]
 pub struct XorForm {
     pub number: u8,
     pub address: Address,

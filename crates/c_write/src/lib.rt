@@ -1,4 +1,6 @@
 // What C calls: a message begun, raw attributes appended, and the message sealed.
+#![tactic(auto)]
+
 ghost use Rattle.std.specs.Prelude.{◌≡◌};
 ghost use Rattle.write_raw.specs.Append.{attr, answer, appended};
 ghost use Rattle.write_close.specs.Seal.{fingerprint, integrity};
@@ -11,7 +13,7 @@ use wire::types::class_numbered;
 
 // The message's size from now on, where `number` is 0.
 #[repr(C)]
-#[derive(Drop)]
+#[derive(Clone, Copy)]
 pub struct Written {
     pub number: u8,
     pub size: usize,

@@ -1,4 +1,6 @@
 // The magic cookie, compared on reading and written by begin.
+#![tactic(auto)]
+
 ghost use Rattle.std.specs.Prelude.{◌≡◌};
 ghost use Rattle.buffers.specs.Put.{fits_at, put};
 ghost use Rattle.cookie.specs.Cookie.{cookie, cookie_at};

@@ -1,4 +1,6 @@
 // CRC-32's registers: the definition and its laws are in specs/; here the product of two, which takes many steps at once.
+#![tactic(auto)]
+
 ghost use Rattle.std.specs.Prelude.{◌≡◌, ◌*◌, ◌/◌, ◌^◌};
 ghost use Rattle.std.specs.Int.Bits.{bit_xor};
 ghost use Rattle.crc.specs.Crc.{bit_step};
@@ -22,7 +24,7 @@ fn bit_step(m: u32) -> u32
 }
 
 // A product on its way: what was added so far, and the digits that are left.
-#[derive(Drop)]
+#[derive(Clone, Copy)]
 struct Factors {
     sum: u32,
     t: u32,

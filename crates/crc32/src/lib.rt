@@ -1,4 +1,6 @@
 // CRC-32/ISO-HDLC: the register carried over bytes, so that a sum can be taken in parts, and the whole sum.
+#![tactic(auto)]
+
 ghost use Rattle.std.specs.Prelude.{◌≡◌};
 ghost use Rattle.crc.specs.Crc.{bytes_from, finished, crc32_of};
 

@@ -1,4 +1,6 @@
 // Steps of four and of eight bytes by a table that the caller lends: for one who takes few steps at a time, many times.
+#![tactic(auto)]
+
 ghost use Rattle.std.specs.Prelude.{◌≡◌, ◌+◌, ◌*◌, ◌≤◌, ◌%◌, [], ◌∷◌, length, get_or, take};
 ghost use Rattle.crc_byte_tables.specs.Tables.{byte_rows, by_bytes, four_by, eight_by};
 

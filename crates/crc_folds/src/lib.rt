@@ -1,4 +1,6 @@
 // The register by words of eight bytes: each is folded into words behind it by shifts alone, and only the last two go through the table.
+#![tactic(auto)]
+
 ghost use Rattle.std.specs.Prelude.{◌≡◌, ◌+◌, ◌-◌, ◌*◌, ◌/◌, ◌≤◌, ◌%◌, length, take, drop};
 ghost use Rattle.std.specs.Int.Bits.{bit_xor};
 ghost use Rattle.crc.specs.Crc.{bytes_from};
@@ -17,7 +19,7 @@ pub fn by_words(c: u32, s: &[u8]) -> u32
 }
 
 // What waits to be added to the next five words, the next in `a`.
-#[derive(Drop)]
+#[derive(Clone, Copy)]
 struct Waiting {
     a: u64,
     b: u64,

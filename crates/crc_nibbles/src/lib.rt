@@ -1,4 +1,6 @@
 // A register carried by a table of half bytes that the caller lends, such as `crc_folds::tables::EIGHT_ROWS`.
+#![tactic(auto)]
+
 ghost use Rattle.std.specs.Prelude.{◌≡◌, ◌+◌, ◌*◌, ◌≤◌, ◌<◌, length};
 ghost use Rattle.crc_nibbles.specs.Rows.{halves, four_halves, bytes_halves};
 

@@ -1,9 +1,11 @@
 // Digits in text: whether all are hex, and numbers in decimal or hex.
+#![tactic(auto)]
+
 ghost use Rattle.std.specs.Prelude.{◌≡◌, ◌<◌, drop};
 ghost use Rattle.digits.specs.Digit.{digit_of, first_bad};
 ghost use Rattle.digits.specs.Number.{number_said, value_from, number_of};
 
-#[derive(Drop)]
+#[derive(Clone, Copy)]
 pub enum Number {
     Is(u64),
     Not,

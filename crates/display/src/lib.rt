@@ -1,4 +1,6 @@
 // What a person is shown: the bytes that a number is about, and the zeros that an IPv6 address leaves out.
+#![tactic(auto)]
+
 ghost use Rattle.std.specs.Prelude.{◌≡◌, ◌<◌, length, drop};
 ghost use Rattle.display.specs.Blame.{within, in_attribute, blamed};
 ghost use Rattle.display.specs.Zeros.{leading, better_of, longest};
@@ -8,7 +10,7 @@ use big_endian::u16_at;
 pub mod escape;
 
 // So many places from one on.
-#[derive(Drop)]
+#[derive(Clone, Copy)]
 pub struct Span {
     pub at: usize,
     pub size: usize,

@@ -1,4 +1,6 @@
 // FINGERPRINT: the sum over the bytes before it.
+#![tactic(auto)]
+
 ghost use Rattle.std.specs.Prelude.{◌≡◌, ◌+◌, ◌-◌, ◌≤◌, length};
 ghost use Rattle.fingerprint.specs.Fingerprint.{fingerprint_at, printed};
 

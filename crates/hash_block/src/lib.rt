@@ -1,4 +1,6 @@
 // Bytes as one block of 64.
+#![tactic(auto)]
+
 ghost use Rattle.std.specs.Prelude.{◌≡◌, ◌≤◌, length};
 ghost use Rattle.hash_block.specs.Block.{block_of};
 

@@ -1,4 +1,6 @@
 // The checks of a header, 1 to 4.
+#![tactic(auto)]
+
 ghost use Rattle.std.specs.Prelude.{◌≡◌, ◌≤◌, ◌<◌, length};
 ghost use Rattle.header.specs.Header.{id_of, header_said, refused_by, front_of, header_of};
 
@@ -8,7 +10,7 @@ use wire::method::Method;
 use wire::transaction_id::TransactionId;
 use wire::types::{FromNumber, MessageClass, MessageType};
 
-#[derive(Drop)]
+#[derive(Clone, Copy)]
 pub enum Head {
     Good {
         class: MessageClass,
@@ -21,7 +23,7 @@ pub enum Head {
 }
 
 // The ID stands beside the answer, since an enum holds no array; it is all zeros where refused.
-#[derive(Drop)]
+#[derive(Clone, Copy)]
 pub struct Header {
     pub head: Head,
     pub id: TransactionId,

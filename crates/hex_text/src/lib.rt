@@ -1,4 +1,6 @@
 // Text of bytes: hex to bytes, and bytes to hex.
+#![tactic(auto)]
+
 ghost use Rattle.std.specs.Prelude.{◌≡◌, ◌<◌, min, length};
 ghost use Rattle.digits.specs.Digit.{digit_of, first_bad};
 ghost use Rattle.hex_text.specs.Hex.{hex_said, glyph_of, hex_of, unhexed, read, shown, showing};
@@ -6,7 +8,7 @@ ghost use Rattle.hex_text.specs.Hex.{hex_said, glyph_of, hex_of, unhexed, read, 
 use digits::first_bad;
 
 // What hex text comes to: that many bytes; the place of the first character that is no digit; or one digit too many.
-#[derive(Drop)]
+#[derive(Clone, Copy)]
 pub enum Hex {
     Bytes(usize),
     Bad(usize),

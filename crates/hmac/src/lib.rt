@@ -1,4 +1,6 @@
 // HMAC-SHA-1 (RFC 2104): of a slice, and of a datagram's front with another length.
+#![tactic(auto)]
+
 ghost use Rattle.std.specs.Prelude.{◌≡◌, ◌++◌, ◌+◌, length, take};
 ghost use Rattle.sha1_digest.specs.Compression.{start, compress};
 ghost use Rattle.hash_block.specs.Block.{block_of};

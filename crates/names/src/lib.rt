@@ -1,4 +1,6 @@
 // Names for a person: attributes, error codes, the numbers of the sheet, classes and methods.
+#![tactic(auto)]
+
 ghost use Rattle.std.specs.Prelude.{◌-◌, ◌≤◌, length, take, drop, ◌≡◌};
 ghost use Rattle.names.specs.Names.{shown, attribute_name, code_name, number_name, class_name, method_name};
 ghost use Rattle.names.specs.TableLaws.{name_from};
@@ -8,7 +10,7 @@ use wire::method::Method;
 use wire::types::MessageClass;
 
 // The first `size` bytes of the text; empty where there is no name.
-#[derive(Drop)]
+#[derive(Clone, Copy)]
 pub struct Name {
     pub text: [u8; 32],
     pub size: usize,

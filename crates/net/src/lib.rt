@@ -1,18 +1,20 @@
 // Socket addresses and their XOR form.
+#![tactic(auto)]
+
 ghost use Rattle.std.specs.Prelude.{◌≡◌, ◌++◌, take};
 ghost use Rattle.cookie.specs.Cookie.{cookie};
 ghost use Rattle.net.specs.Net.{family_number, ip_size, xored, addr_xor};
 
 use wire::transaction_id::TransactionId;
 
-#[derive(Drop)]
+#[derive(Clone, Copy)]
 pub enum Family {
     Ipv4,
     Ipv6,
 }
 
 // An IP of 4 bytes stands in the first four.
-#[derive(Drop)]
+#[derive(Clone, Copy)]
 pub struct SocketAddr {
     pub family: Family,
     pub port: u16,

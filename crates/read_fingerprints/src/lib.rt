@@ -1,4 +1,6 @@
 // The FINGERPRINTs of a datagram, judged in order.
+#![tactic(auto)]
+
 ghost use Rattle.std.specs.Prelude.{◌≡◌, ◌+◌, ◌-◌, ◌≤◌, ◌<◌, length, take, drop};
 ghost use Rattle.base.specs.Same.{same};
 ghost use Rattle.big_endian.specs.Numbers.{four};
@@ -17,7 +19,7 @@ use fingerprint::{FINGERPRINT, fingerprint_at};
 
 // The register over the first `upto` bytes, with `length` in the length field, and what so many bytes that are nought make of
 // 0x8000_0000: so each FINGERPRINT goes on where the one before it stopped.
-#[derive(Drop)]
+#[derive(Clone, Copy)]
 struct Running {
     upto: usize,
     length: u16,
@@ -26,21 +28,21 @@ struct Running {
 }
 
 // The value that a FINGERPRINT owes, and how far the register has gone.
-#[derive(Drop)]
+#[derive(Clone, Copy)]
 struct Summed {
     value: u32,
     run: Running,
 }
 
 // What is wrong with an attribute as a FINGERPRINT, and how far the register has gone.
-#[derive(Drop)]
+#[derive(Clone, Copy)]
 struct Verdict {
     fault: u8,
     run: Running,
 }
 
 // Where judging starts, and how many attributes stand before it.
-#[derive(Drop)]
+#[derive(Clone, Copy)]
 struct Place {
     at: usize,
     count: usize,

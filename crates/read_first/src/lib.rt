@@ -1,4 +1,6 @@
 // The first attribute of a type: where it stands, whether there is one, and its value as a part of the lent datagram.
+#![tactic(auto)]
+
 ghost use Rattle.std.specs.Prelude.{◌≡◌, ◌+◌};
 ghost use Rattle.registry.specs.Rows.{rfc5389};
 ghost use Rattle.read_first.specs.First.{first_said, first_in, first, placed, is_there, value_of, value_at};
@@ -7,7 +9,7 @@ use attribute::{Walk, step};
 use read_message::Answer;
 
 // Where the first attribute of a type starts, and the size of its value.
-#[derive(Drop)]
+#[derive(Clone, Copy)]
 pub enum First {
     Found { at: usize, size: usize },
     Absent,

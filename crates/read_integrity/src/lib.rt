@@ -1,4 +1,6 @@
 // MESSAGE-INTEGRITY, checked under a key.
+#![tactic(auto)]
+
 ghost use Rattle.std.specs.Prelude.{◌≡◌, ◌+◌, ◌-◌, ◌≤◌, length, take, drop};
 ghost use Rattle.registry.specs.Rows.{rfc5389};
 ghost use Rattle.read_integrity.specs.Integrity.{compared_at, integrity_fault};

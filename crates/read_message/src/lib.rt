@@ -1,4 +1,6 @@
 // The reader: any bytes in; whole, broken or refused out.
+#![tactic(auto)]
+
 ghost use Rattle.std.specs.Prelude.{◌≡◌, ◌≤◌, ◌<◌, length};
 ghost use Rattle.attribute.specs.Scan.{scanned};
 ghost use Rattle.attribute.specs.ScanLaws.{Scanning};
@@ -15,7 +17,7 @@ use wire::method::Method;
 use wire::transaction_id::TransactionId;
 use wire::types::MessageClass;
 
-#[derive(Drop)]
+#[derive(Clone, Copy)]
 pub enum Answer {
     Whole {
         class: MessageClass,
@@ -34,21 +36,21 @@ pub enum Answer {
 }
 
 // The ID stands beside the answer, since an enum holds no array; it is all zeros where refused.
-#[derive(Drop)]
+#[derive(Clone, Copy)]
 pub struct Reading {
     pub answer: Answer,
     pub id: TransactionId,
 }
 
 // As far as no FINGERPRINT stands: the place, and how many attributes stand before it.
-#[derive(Drop)]
+#[derive(Clone, Copy)]
 struct Front {
     at: usize,
     count: usize,
 }
 
 // What the values come to, and where the FINGERPRINTs begin.
-#[derive(Drop)]
+#[derive(Clone, Copy)]
 struct Found {
     scan: Scan,
     front: Front,

@@ -1,4 +1,6 @@
 // The realm to use: the message's own, or the one that the site has configured.
+#![tactic(auto)]
+
 ghost use Rattle.std.specs.Prelude.{◌≡◌};
 ghost use Rattle.registry.specs.Rows.{rfc5389};
 ghost use Rattle.read_realm.specs.Realm.{realm_of, realm_at};

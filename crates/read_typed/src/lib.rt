@@ -1,4 +1,6 @@
 // Typed reading: a type, the bytes of a value and the transaction ID in; its fields out, or what is wrong with it.
+#![tactic(auto)]
+
 ghost use Rattle.std.specs.Prelude.{◌≡◌, ◌+◌, get_or};
 ghost use Rattle.registry.specs.Rows.{rfc5389};
 ghost use Rattle.registry.specs.ErrorCode.{code_of};
@@ -9,7 +11,7 @@ use registry::{ErrorCode, Rule};
 use wire::transaction_id::TransactionId;
 
 // What a value says. `Plain`: its bytes as they stand are all it says.
-#[derive(Drop)]
+#[derive(Clone, Copy)]
 pub enum Value {
     Address { family: Family, port: u16 },
     Code(ErrorCode),
@@ -18,7 +20,7 @@ pub enum Value {
 }
 
 // The IP stands beside the value, since an enum holds no array; it is all zeros where there is none.
-#[derive(Drop)]
+#[derive(Clone, Copy)]
 pub struct Typed {
     pub value: Value,
     pub ip: [u8; 16],

@@ -1,6 +1,6 @@
 // The error codes that RFC 5389 section 15.6 names, each with its phrase.
 
-#[derive(Drop)]
+#[derive(Clone, Copy)]
 pub struct TryAlternate {}
 
 impl TryAlternate {
@@ -9,7 +9,7 @@ impl TryAlternate {
     pub const PHRASE: [u8; 13] = *b"Try Alternate";
 }
 
-#[derive(Drop)]
+#[derive(Clone, Copy)]
 pub struct BadRequest {}
 
 impl BadRequest {
@@ -18,7 +18,7 @@ impl BadRequest {
     pub const PHRASE: [u8; 11] = *b"Bad Request";
 }
 
-#[derive(Drop)]
+#[derive(Clone, Copy)]
 pub struct Unauthorized {}
 
 impl Unauthorized {
@@ -27,7 +27,7 @@ impl Unauthorized {
     pub const PHRASE: [u8; 12] = *b"Unauthorized";
 }
 
-#[derive(Drop)]
+#[derive(Clone, Copy)]
 pub struct UnknownAttribute {}
 
 impl UnknownAttribute {
@@ -36,7 +36,7 @@ impl UnknownAttribute {
     pub const PHRASE: [u8; 17] = *b"Unknown Attribute";
 }
 
-#[derive(Drop)]
+#[derive(Clone, Copy)]
 pub struct StaleNonce {}
 
 impl StaleNonce {
@@ -45,7 +45,7 @@ impl StaleNonce {
     pub const PHRASE: [u8; 11] = *b"Stale Nonce";
 }
 
-#[derive(Drop)]
+#[derive(Clone, Copy)]
 pub struct ServerError {}
 
 impl ServerError {

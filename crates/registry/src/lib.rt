@@ -1,4 +1,6 @@
 // The attributes of RFC 5389: one row for each kind, and what is wrong with a value.
+#![tactic(auto)]
+
 ghost use Rattle.std.specs.Prelude.{◌≡◌};
 ghost use Rattle.registry.specs.Rows.{rule_number, entry_said, rule_in, look, rfc5389};
 ghost use Rattle.registry.specs.Fault.{address_fault, code_fault, rule_fault, entry_fault, fault};
@@ -7,7 +9,7 @@ pub mod errors;
 pub mod methods;
 
 // What a value owes besides its size, and how it is read and written.
-#[derive(Drop)]
+#[derive(Clone, Copy)]
 pub enum Rule {
     Plain,
     Address,
@@ -18,14 +20,14 @@ pub enum Rule {
 }
 
 // What an ERROR-CODE says beside its phrase; the reserved bits are a number up to 2,097,151.
-#[derive(Drop)]
+#[derive(Clone, Copy)]
 pub struct ErrorCode {
     pub code: u16,
     pub reserved: u32,
 }
 
 // One for each kind.
-#[derive(Drop)]
+#[derive(Clone, Copy)]
 pub struct Row {
     pub kind: u16,
     pub least: u16,
@@ -105,7 +107,7 @@ pub const ROWS: [Row; KINDS] = [
 ];
 
 // What the list says of a type.
-#[derive(Drop)]
+#[derive(Clone, Copy)]
 pub enum Entry {
     Listed {
         least: u16,

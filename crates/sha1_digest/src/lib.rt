@@ -1,4 +1,6 @@
 // SHA-1 (FIPS 180-4) of a slice.
+#![tactic(auto)]
+
 ghost use Rattle.std.specs.Prelude.{◌≡◌};
 ghost use Rattle.sha1_digest.specs.Sha1 as spec;
 

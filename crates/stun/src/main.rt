@@ -1,4 +1,6 @@
 // stun: the front door. Shows, lists, writes and checks STUN messages; every rule is the library's.
+#![tactic(auto)]
+
 use hex_text::Hex;
 use stun_file::Form;
 use stun_io::errors::{complain, complain_column, fail, status};

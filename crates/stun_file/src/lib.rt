@@ -1,4 +1,5 @@
 // One datagram of a file or of standard input, as raw bytes or as hex text.
+#![tactic(auto)]
 
 mod hex_text;
 

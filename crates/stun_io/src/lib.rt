@@ -1,4 +1,5 @@
 // What the commands of the program share: parts of slices, words, bytes read, standard output and standard error.
+#![tactic(auto)]
 
 pub mod buffered;
 pub mod errors;

@@ -1,4 +1,5 @@
 // stun lines: a line of hex a datagram, a line of answer each.
+#![tactic(auto)]
 
 pub mod answers;
 mod progress;

@@ -1,5 +1,7 @@
 // stun read and stun check: one datagram shown for a person, and whether its signature is good. Each line but the
 // first stands behind a line end.
+#![tactic(auto)]
+
 ghost use Rattle.std.specs.Prelude.{◌≡◌, min};
 ghost use Rattle.registry.specs.Rows.{rfc5389};
 ghost use Rattle.read_message.specs.Reading.{reading_said, reading_of};

@@ -1,4 +1,5 @@
 // stun write: a script of calls on one buffer, each answered by a line. Every rule is the library's.
+#![tactic(auto)]
 
 mod calls;
 mod expected;

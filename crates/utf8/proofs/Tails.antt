@@ -1,7 +1,7 @@
 -- What `two`, `three` and `four`, and `is_pair`, `is_triple` and `is_quad` answer, by the bytes that they looked at. The tests are those of `right`.
 use Prim.Native.Nat.{ℕ, suc, ◌+◌, ◌-◌, ◌≤◌, ◌<◌}
 use mathlib.Core.List.{List, [], ◌∷◌}
-use mathlib.Core.Bool.{Bool, true, false, ◌&&◌, not, and-false, and_true}
+use mathlib.Core.Bool.{Bool, true, false, ◌&&◌, not, and-false, and-true}
 use mathlib.Core.Path.{◌≡◌, refl, sym, ap, ◌∙◌}
 use native.Mathlib.Omega.{arith}
 use lib.ListN.{length, get_or, drop, length-drop}
@@ -117,7 +117,7 @@ third_wrong s at a z b y lo hi q t n e f =
     (skip s (at + 1) (at + 2) b y (lo to hi ∷ q) (omega arith) (omega arith) (wrong s (at + 2) (at + 3) lo hi q (omega arith) (omega arith) t e f)))
 
 last : (s : List ℕ) (i lo hi : ℕ) (t : Bool) → i < length s → t ≡ test s i lo hi → begins (lo to hi ∷ []) (drop i s) ≡ t
-last s i lo hi t h e = next s i (i + 1) lo hi [] (omega arith) h ∙ rw (begins_none (drop (i + 1) s), e) (and_true (test s i lo hi))
+last s i lo hi t h e = next s i (i + 1) lo hi [] (omega arith) h ∙ rw (begins_none (drop (i + 1) s), e) (and-true (test s i lo hi))
 
 pub second_last : (s : List ℕ) (at a z lo hi : ℕ) (t u : Bool) → 2 ≤ length s - at → t ≡ test s at a z → not t ≡ false → u ≡ test s (at + 1) lo hi
     → u ≡ begins (a to z ∷ lo to hi ∷ []) (drop at s)

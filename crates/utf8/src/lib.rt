@@ -1,4 +1,6 @@
 // UTF-8 as RFC 3629 has it: whether bytes are text.
+#![tactic(auto)]
+
 ghost use Rattle.std.specs.Prelude.{◌≡◌, [], ◌∷◌, ◌&&◌, ◌+◌, ◌≤◌, ◌<◌, length, get_or, drop, leb, eqb};
 ghost use Rattle.utf8_spec.specs.Utf8.{◌to◌, UTF8-tail, begins, is_utf8};
 ghost use Rattle.utf8.specs.Places.{width_at, behind_at};

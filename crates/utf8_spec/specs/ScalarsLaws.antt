@@ -83,6 +83,7 @@ char_encoded (is (later (later (later (later (later (later (later this))))))) (b
     encoded (high (omega arith) (omega arith)) (four_back a b c d _ (omega arith) m o p q r s refl (omega arith))
 char_encoded (is (later (later (later (later (later (later (later (later this)))))))) (byte {b = a} h l (byte {b = b} m o (byte {b = c} p q (byte {b = d} r s none))))) =
     encoded (high (omega arith) (omega arith)) (four_back a b c d _ (omega arith) m (omega arith) p q r s refl (omega arith))
+char_encoded {c = c} (is {q = q} (later (later (later (later (later (later (later (later (later x))))))))) _) = elim x [ ]
 
 next : {lo hi b : ℕ} {q : Sequence} {c : List ℕ} → lo ≤ b → b ≤ hi → Has q c → Has (lo to hi ∷ q) (b ∷ c)
 next h l r = byte h l r

@@ -1,5 +1,7 @@
 // Published vectors of the sums and of UTF-8, run: each line is a leaf, a vector's name, and what our code answers. `stdout` has what
 // was published.
+#![tactic(auto)]
+
 mod crc32_vectors;
 mod sha_vectors;
 mod utf8_vectors;

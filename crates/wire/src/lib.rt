@@ -1,4 +1,6 @@
 // Class and method, type number, transaction ID.
+#![tactic(auto)]
+
 pub mod method;
 pub mod transaction_id;
 pub mod types;

@@ -2,12 +2,12 @@
 ghost use Rattle.std.specs.Prelude.{◌≡◌};
 ghost use Rattle.wire.specs.TypeNumber.{method_made, new_method_said};
 
-#[derive(Drop)]
+#[derive(Clone, Copy)]
 pub struct Method {
     pub code: u16,
 }
 
-#[derive(Drop)]
+#[derive(Clone, Copy)]
 pub enum NewMethod {
     Made(Method),
     Refused { number: u8 },

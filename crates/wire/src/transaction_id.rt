@@ -1,5 +1,5 @@
 // The transaction ID: twelve bytes, by value.
-#[derive(Drop)]
+#[derive(Clone, Copy)]
 pub struct TransactionId {
     pub bytes: [u8; 12],
 }

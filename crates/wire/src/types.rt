@@ -4,7 +4,7 @@ ghost use Rattle.wire.specs.TypeNumber.{class_number, at_most_three, type_number
 
 use crate::method::Method;
 
-#[derive(Drop)]
+#[derive(Clone, Copy)]
 pub enum MessageClass {
     Request,
     Indication,
@@ -12,19 +12,19 @@ pub enum MessageClass {
     ErrorResponse,
 }
 
-#[derive(Drop)]
+#[derive(Clone, Copy)]
 pub struct MessageType {
     pub class: MessageClass,
     pub method: Method,
 }
 
-#[derive(Drop)]
+#[derive(Clone, Copy)]
 pub enum TypeNumber {
     Number(u16),
     Refused { number: u8 },
 }
 
-#[derive(Drop)]
+#[derive(Clone, Copy)]
 pub enum FromNumber {
     Known(MessageType),
     Refused { number: u8 },

@@ -1,4 +1,6 @@
 // Typed append of an address.
+#![tactic(auto)]
+
 ghost use Rattle.std.specs.Prelude.{◌≡◌, ◌+◌, ◌∷◌, ◌++◌, take};
 ghost use Rattle.big_endian.specs.Numbers.{two};
 ghost use Rattle.net.specs.Net.{ip_size, address_value};

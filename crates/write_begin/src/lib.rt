@@ -1,4 +1,6 @@
 // The writer's first call: a header with no attributes.
+#![tactic(auto)]
+
 ghost use Rattle.std.specs.Prelude.{◌≡◌, ◌≤◌, length};
 ghost use Rattle.base.specs.Laid.{laid};
 ghost use Rattle.write_begin.specs.Begin.{written_said, head_bytes, begun, beginning};
@@ -10,7 +12,7 @@ use wire::transaction_id::TransactionId;
 use wire::types::{MessageClass, MessageType, TypeNumber};
 
 // What a call of the writer answers: the message's size from now on, or the number of the refusal.
-#[derive(Drop)]
+#[derive(Clone, Copy)]
 pub enum Written {
     Total { size: usize },
     Refused { number: u8 },

@@ -1,4 +1,6 @@
 // FINGERPRINT and MESSAGE-INTEGRITY appended, each by the writer's own computation.
+#![tactic(auto)]
+
 ghost use Rattle.std.specs.Prelude.{◌≡◌};
 ghost use Rattle.write_begin.specs.Begin.{written_said};
 ghost use Rattle.write_raw.specs.Append.{answer, appended};

@@ -1,4 +1,6 @@
 // Typed append of an error code with its phrase.
+#![tactic(auto)]
+
 ghost use Rattle.std.specs.Prelude.{◌≡◌, ◌+◌, ◌<◌, ◌≤◌, length, take};
 ghost use Rattle.registry.specs.Rows.{rfc5389};
 ghost use Rattle.registry.specs.ErrorCode.{code_value};

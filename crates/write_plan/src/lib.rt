@@ -1,4 +1,6 @@
 // What appending an attribute to the message at the front of a buffer comes to, before a byte is written.
+#![tactic(auto)]
+
 ghost use Rattle.std.specs.Prelude.{◌≡◌, ◌≤◌, length};
 ghost use Rattle.write_plan.specs.Plan.{plan_said, covers, message_fault, plan_of};
 
@@ -6,7 +8,7 @@ use attribute::{Walk, step};
 use big_endian::u16_at;
 use header::Head;
 
-#[derive(Drop)]
+#[derive(Clone, Copy)]
 pub enum Plan {
     // The attribute goes to `at`; then the body has `body` bytes and the message `total`.
     Go { at: usize, body: u16, total: usize },

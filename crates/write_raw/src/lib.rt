@@ -1,4 +1,6 @@
 // An attribute put behind the last one of the message at the front of a lent buffer.
+#![tactic(auto)]
+
 ghost use Rattle.std.specs.Prelude.{◌≡◌, ◌+◌, ◌≤◌, ◌<◌, length};
 ghost use Rattle.base.specs.Laid.{laid};
 ghost use Rattle.attribute.specs.Attribute.{bytes_of};

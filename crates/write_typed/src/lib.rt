@@ -1,4 +1,6 @@
 // Typed append: a value that is judged by its type's rules, with padding of zeros.
+#![tactic(auto)]
+
 ghost use Rattle.std.specs.Prelude.{◌≡◌};
 ghost use Rattle.registry.specs.Rows.{rfc5389};
 ghost use Rattle.write_begin.specs.Begin.{written_said};

@@ -1,0 +1,14 @@
+use Prim.Native.Nat.{◌-◌}
+use lib.ListN.{length}
+use Rattle.base.specs.LaidLaws.{Laying, laying_start, laying_turn, laying_done}
+use borrow.Author.Rules.{rules}
+use Rattle.buffers.proofs.lay.Goals as goal
+
+pub loop-j-init : goal.loop-j-init
+loop-j-init c = laying_start _ _ _
+
+pub loop-j-preserved : goal.loop-j-preserved
+loop-j-preserved c = search (laying_turn)
+
+pub returns : goal.returns
+returns c = search (laying_done)

@@ -1,0 +1,8 @@
+use Rattle.crc.proofs.Multiplied.{clear, set}
+use Rattle.crc.proofs.added.Goals as goal
+
+pub returns-then-t-lt2147483648 : goal.returns-then-t-lt2147483648
+returns-then-t-lt2147483648 c = search (clear)
+
+pub returns : goal.returns
+returns c = search (set)

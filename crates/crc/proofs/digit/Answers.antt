@@ -1,0 +1,6 @@
+use Rattle.crc.proofs.Multiplied.{one_taken}
+use borrow.Author.Rules.{rules}
+use Rattle.crc.proofs.digit.Goals as goal
+
+pub returns : goal.returns
+returns c = search (one_taken)

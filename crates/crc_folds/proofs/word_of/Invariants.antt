@@ -1,0 +1,11 @@
+use Prim.Native.Nat.{◌-◌}
+use native.Mathlib.Omega.{arith}
+use Rattle.crc_folds.proofs.Walk.{Read, read_start, read_small, read_turn, read_done}
+use borrow.Author.Rules.{rules}
+use Rattle.crc_folds.proofs.word_of.Given as goal
+
+abbrev pub invariant-loop-k : goal.invariant-loop-k
+invariant-loop-k l = Read l.s l.w l.k
+
+abbrev pub decreases-loop-k : goal.decreases-loop-k
+decreases-loop-k l = l.k

@@ -1,0 +1,18 @@
+use Prim.Native.Nat.{◌-◌}
+use native.Mathlib.Omega.{arith}
+use lib.ListN.{length}
+use Rattle.crc_nibbles.proofs.Halves.{Byted, bytes_none, byted_start, byted_turn, byted_done}
+use borrow.Author.Rules.{rules}
+use Rattle.crc_nibbles.proofs.bytes.Goals as goal
+
+pub returns-then-t-lt32 : goal.returns-then-t-lt32
+returns-then-t-lt32 c = search (bytes_none)
+
+pub loop-i-init : goal.loop-i-init
+loop-i-init c = search (byted_start)
+
+pub loop-i-preserved : goal.loop-i-preserved
+loop-i-preserved c = search (byted_turn)
+
+pub returns : goal.returns
+returns c = search (byted_done)

@@ -1,0 +1,12 @@
+use Prim.Native.Nat.{◌-◌}
+use native.Mathlib.Omega.{arith}
+use lib.ListN.{length}
+use Rattle.crc_nibbles.proofs.Halves.{Byted, bytes_none, byted_start, byted_turn, byted_done}
+use borrow.Author.Rules.{rules}
+use Rattle.crc_nibbles.proofs.bytes.Given as goal
+
+abbrev pub invariant-loop-i : goal.invariant-loop-i
+invariant-loop-i l = Byted l.t l.c l.s l.r l.i
+
+abbrev pub decreases-loop-i : goal.decreases-loop-i
+decreases-loop-i l = length l.s - l.i

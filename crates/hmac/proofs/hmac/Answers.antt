@@ -1,0 +1,6 @@
+use borrow.Author.Rules.{rules}
+use Rattle.hmac.proofs.Keys.{both}
+use Rattle.hmac.proofs.hmac.Goals as goal
+
+pub returns : goal.returns
+returns c = search (both)

@@ -1,0 +1,6 @@
+use borrow.Author.Rules.{rules}
+use Rattle.hmac.proofs.Keys.{keyed_by}
+use Rattle.hmac.proofs.keyed.Goals as goal
+
+pub returns : goal.returns
+returns c = search (keyed_by)

@@ -1,0 +1,6 @@
+use borrow.Author.Rules.{rules}
+use Rattle.hmac.proofs.Keys.{behind}
+use Rattle.hmac.proofs.outer.Goals as goal
+
+pub returns : goal.returns
+returns c = search (behind)

@@ -1,0 +1,6 @@
+use borrow.Author.Rules.{rules}
+use Rattle.hmac.proofs.Front.{relabelled}
+use Rattle.hmac.proofs.relabelled.Goals as goal
+
+pub returns : goal.returns
+returns c = search (relabelled)

@@ -1,0 +1,6 @@
+use Rattle.names.proofs.Looking.{at_front}
+use borrow.Author.Rules.{rules}
+use Rattle.names.proofs.of.Goals as goal
+
+pub returns : goal.returns
+returns c = search (at_front)

@@ -1,0 +1,12 @@
+use Rattle.std.proofs.Common.{◌-◌, rules}
+use Rattle.sha1_digest.proofs.Twenties.{Turning, turning_start, turn_0, turning_done}
+use Rattle.sha1_digest.proofs.compression.rounds_0.Goals as goal
+
+pub loop-t-init : goal.loop-t-init
+loop-t-init c = search (turning_start)
+
+pub loop-t-preserved : goal.loop-t-preserved
+loop-t-preserved c = search (turn_0)
+
+pub returns : goal.returns
+returns c = search (turning_done)

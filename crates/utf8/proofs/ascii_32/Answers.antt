@@ -1,0 +1,6 @@
+use Rattle.utf8.proofs.Marks.{thirty_two}
+use borrow.Author.Rules.{rules}
+use Rattle.utf8.proofs.ascii_32.Goals as goal
+
+pub returns : goal.returns
+returns c = search (thirty_two)

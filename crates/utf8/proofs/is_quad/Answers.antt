@@ -1,0 +1,19 @@
+use native.Mathlib.Omega.{arith}
+use Rattle.utf8.proofs.Tails.{too_few, first_wrong, second_wrong, third_wrong, fourth_last}
+use borrow.Author.Rules.{rules}
+use Rattle.utf8.proofs.is_quad.Goals as goal
+
+pub returns-then-s-at-lt4 : goal.returns-then-s-at-lt4
+returns-then-s-at-lt4 c = search (too_few)
+
+pub returns-then-not-right : goal.returns-then-not-right
+returns-then-not-right c = search (first_wrong 4 (omega arith))
+
+pub returns-then-not-right-2 : goal.returns-then-not-right-2
+returns-then-not-right-2 c = search (second_wrong 4 (omega arith))
+
+pub returns-then-not-right-3 : goal.returns-then-not-right-3
+returns-then-not-right-3 c = search (third_wrong)
+
+pub returns : goal.returns
+returns c = search (fourth_last)

@@ -1,0 +1,6 @@
+use Rattle.utf8.proofs.Marks.{eight}
+use borrow.Author.Rules.{rules}
+use Rattle.utf8.proofs.tops.Goals as goal
+
+pub returns : goal.returns
+returns c = search (eight)
