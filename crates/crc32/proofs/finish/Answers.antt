@@ -1,0 +1,6 @@
+-- The sum is the register with every bit turned.
+use mathlib.Core.Path.{refl}
+use Rattle.crc32.proofs.finish.Goals as goal
+
+pub returns : goal.returns
+returns c = refl

@@ -1,0 +1,13 @@
+use Prim.Native.Nat.{◌-◌, ◌≤◌}
+use Rattle.crc_byte_tables.proofs.Making.{Making, more_start, more_turn, more_done}
+use borrow.Author.Rules.{rules}
+use Rattle.crc_byte_tables.proofs.more_rows.Goals as goal
+
+pub loop-i-init : goal.loop-i-init
+loop-i-init c = (search (more_start), search rules)
+
+pub loop-i-preserved : goal.loop-i-preserved
+loop-i-preserved c = (search (more_turn), search rules)
+
+pub returns : goal.returns
+returns c = search (more_done)

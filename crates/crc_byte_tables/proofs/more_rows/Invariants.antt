@@ -1,0 +1,10 @@
+use Prim.Native.Nat.{◌-◌, ◌≤◌}
+use Rattle.crc_byte_tables.proofs.Making.{Making, more_start, more_turn, more_done}
+use borrow.Author.Rules.{rules}
+use Rattle.crc_byte_tables.proofs.more_rows.Given as goal
+
+abbrev pub invariant-loop-i : goal.invariant-loop-i
+invariant-loop-i l = Making 2048 l.w l.i × (256 ≤ l.i)
+
+abbrev pub decreases-loop-i : goal.decreases-loop-i
+decreases-loop-i l = 2048 - l.i

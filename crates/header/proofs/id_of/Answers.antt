@@ -1,0 +1,17 @@
+use Prim.Native.Nat.{◌-◌}
+use mathlib.Core.Path.{refl}
+use lib.ListN.{drop}
+use Rattle.base.specs.FillingLaws.{Filling, filling_start, filling_from, filling_done}
+use Rattle.header.specs.Header.{id_of}
+use borrow.Author.Rules.{rules}
+use Rattle.header.proofs.id_of.Goals as goal
+
+pub loop-i-init : goal.loop-i-init
+loop-i-init c = filling_start _ _ 12 refl
+
+pub loop-i-preserved : goal.loop-i-preserved
+loop-i-preserved c = search (filling_from)
+
+pub returns : goal.returns
+unfolding id_of
+returns c = search (filling_done)

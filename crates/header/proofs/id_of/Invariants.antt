@@ -1,0 +1,13 @@
+use Prim.Native.Nat.{◌-◌}
+use mathlib.Core.Path.{refl}
+use lib.ListN.{drop}
+use Rattle.base.specs.FillingLaws.{Filling, filling_start, filling_from, filling_done}
+use Rattle.header.specs.Header.{id_of}
+use borrow.Author.Rules.{rules}
+use Rattle.header.proofs.id_of.Given as goal
+
+abbrev pub invariant-loop-i : goal.invariant-loop-i
+invariant-loop-i l = Filling (drop 8 l.d) 12 l.bytes l.i
+
+abbrev pub decreases-loop-i : goal.decreases-loop-i
+decreases-loop-i l = 12 - l.i

@@ -1,0 +1,12 @@
+use Prim.Native.Nat.{◌-◌}
+use native.Mathlib.Omega.{arith}
+use lib.ListN.{length}
+use Rattle.net.proofs.Xoring.{Xoring, start, turn, done_mask, done}
+use borrow.Author.Rules.{rules}
+use Rattle.net.proofs.xor_bytes.Given as goal
+
+abbrev pub invariant-loop-i : goal.invariant-loop-i
+invariant-loop-i l = Xoring l.initial.buf l.mask l.buf l.i
+
+abbrev pub decreases-loop-i : goal.decreases-loop-i
+decreases-loop-i l = length l.initial.buf - l.i

@@ -1,0 +1,6 @@
+use Rattle.write_begin.proofs.Begins.{parts}
+use borrow.Author.Rules.{rules}
+use Rattle.write_begin.proofs.put_head.Goals as goal
+
+pub returns : goal.returns
+returns c = search (parts)
