@@ -68,6 +68,7 @@ stop_left {d} {p} (beyond h) s = let e : drop p d ≡ [] = drop_of_length-le d {
 stop_left {d} {p} (ended h) s = let e : drop p d ≡ [] = drop_of_length-le d {i = p} (omega arith) in rw e parse_none
 stop_left (short h l) s = unroll (short h l)
 stop_left (long h l) s = unroll (long h l)
+stop_left {d = d} {p = p} (attribute _) s = elim s [ ]
 
 pub stopped : (d : List ℕ) (p : ℕ) {w : Walk} → Stops w → w ≡ step_at d p → parse 0 (drop p d) ≡ stop (drop p d)
 stopped d p s e = stop_left (seen e) s
