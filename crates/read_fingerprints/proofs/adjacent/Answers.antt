@@ -1,0 +1,6 @@
+use Rattle.read_fingerprints.proofs.Runs.{adjacent_is}
+use borrow.Author.Rules.{rules}
+use Rattle.read_fingerprints.proofs.adjacent.Goals as goal
+
+pub returns : goal.returns
+returns c = (search (adjacent_is), search rules)

@@ -1,0 +1,6 @@
+use Rattle.read_fingerprints.proofs.Runs.{carried_is}
+use borrow.Author.Rules.{rules}
+use Rattle.read_fingerprints.proofs.carried.Goals as goal
+
+pub returns : goal.returns
+returns c = search (carried_is)

@@ -1,0 +1,33 @@
+use Prim.Native.Nat.{◌-◌}
+use mathlib.Core.Path.{refl}
+use lib.ListN.{length}
+use Rattle.attribute.specs.ScanLaws.{Scanning, passed, cut, less}
+use Rattle.attribute.specs.SaidLaws.{walk_one}
+use Rattle.attribute.proofs.Stops.{stops}
+use Rattle.read_fingerprints.specs.Fingerprints.{print_faults, on_from}
+use Rattle.read_fingerprints.specs.Running.{Ran}
+use Rattle.read_fingerprints.proofs.Runs.{unbegun}
+use Rattle.read_fingerprints.proofs.Scans.{start, print_room, print_on, print_decides, ran_on}
+use borrow.Author.Rules.{rules}
+use Rattle.read_fingerprints.proofs.judge_each.Goals as goal
+
+pub loop-kind-init : goal.loop-kind-init
+loop-kind-init c = (start _ _ _ (search rules) (search rules) (search rules) refl, search (unbegun))
+
+pub returns-then-at-d : goal.returns-then-at-d
+returns-then-at-d c = search (passed)
+
+pub returns-in_default : goal.returns-in_default
+returns-in_default c = search (cut, stops, c.in_default.not-Attribute, walk_one)
+
+pub print_fault-v-requires : goal.print_fault-v-requires
+print_fault-v-requires c = (search rules, search rules, search rules, search (print_room, walk_one))
+
+pub returns-then-v-ne0 : goal.returns-then-v-ne0
+returns-then-v-ne0 c = search (print_decides, walk_one)
+
+pub loop-kind-smaller : goal.loop-kind-smaller
+loop-kind-smaller c = search (less, walk_one)
+
+pub loop-kind-preserved : goal.loop-kind-preserved
+loop-kind-preserved c = (search (print_on, walk_one), search (ran_on, walk_one))

@@ -1,0 +1,18 @@
+use Prim.Native.Nat.{◌-◌}
+use mathlib.Core.Path.{refl}
+use lib.ListN.{length}
+use Rattle.attribute.specs.ScanLaws.{Scanning, passed, cut, less}
+use Rattle.attribute.specs.SaidLaws.{walk_one}
+use Rattle.attribute.proofs.Stops.{stops}
+use Rattle.read_fingerprints.specs.Fingerprints.{print_faults, on_from}
+use Rattle.read_fingerprints.specs.Running.{Ran}
+use Rattle.read_fingerprints.proofs.Runs.{unbegun}
+use Rattle.read_fingerprints.proofs.Scans.{start, print_room, print_on, print_decides, ran_on}
+use borrow.Author.Rules.{rules}
+use Rattle.read_fingerprints.proofs.judge_each.Given as goal
+
+abbrev pub invariant-loop-kind : goal.invariant-loop-kind
+invariant-loop-kind l = Scanning (print_faults l.d) l.d l.at l.count (on_from l.d l.from l.before) × Ran l.d l.run l.at
+
+abbrev pub decreases-loop-kind : goal.decreases-loop-kind
+decreases-loop-kind l = length l.d - l.at

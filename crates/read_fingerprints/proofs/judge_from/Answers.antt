@@ -1,0 +1,6 @@
+use Rattle.crc_byte_tables.specs.TablesLaws.{byte_steps}
+use borrow.Author.Rules.{rules}
+use Rattle.read_fingerprints.proofs.judge_from.Goals as goal
+
+pub judge_each-requires-2 : goal.judge_each-requires-2
+judge_each-requires-2 c = (byte_steps _ (search rules), search rules, search rules, search rules)

@@ -1,0 +1,6 @@
+use Rattle.read_fingerprints.proofs.Runs.{relength_is}
+use borrow.Author.Rules.{rules}
+use Rattle.read_fingerprints.proofs.relength.Goals as goal
+
+pub returns : goal.returns
+returns c = search (relength_is)

@@ -1,0 +1,10 @@
+use Prim.Native.Nat.{◌-◌}
+use Rattle.read_fingerprints.proofs.Runs.{Worded, worded_start, worded_turn, worded_done}
+use borrow.Author.Rules.{rules}
+use Rattle.read_fingerprints.proofs.words.Given as goal
+
+abbrev pub invariant-loop-at : goal.invariant-loop-at
+invariant-loop-at l = Worded l.d l.length l.p l.at l.sum l.power
+
+abbrev pub decreases-loop-at : goal.decreases-loop-at
+decreases-loop-at l = l.p - l.at

@@ -1,0 +1,6 @@
+use Rattle.read_typed.proofs.Fields.{fields}
+use borrow.Author.Rules.{rules}
+use Rattle.read_typed.proofs.address.Goals as goal
+
+pub returns : goal.returns
+returns c = search (fields)
