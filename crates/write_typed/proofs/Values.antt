@@ -7,8 +7,6 @@ use borrow.Author.Tests.{eq-eqb, ne_eqb}
 use lib.ListN.{length, take, drop, replicate}
 use Rattle.base.specs.Choice.{pick}
 use Rattle.attribute.specs.Attribute.{padded}
-use types.Run.{OneOf}
-use denote.Enum.Declared.{tag_of, declared}
 use Rattle.registry.specs.Rows.{rule_number, look, rule_in, rfc5389}
 use Rattle.registry.specs.Fault.{fault}
 use Rattle.registry.specs.declared.Rule.{Rule}
@@ -38,9 +36,8 @@ module _ (k : ℕ) (v : List ℕ) {x : Entry} {q : Rule} (e : x ≡ look rfc5389
   pub is_text : {n : ℕ} → q ≡ Text → n ≡ refusal rfc5389 k v → n ≡ text_refusal rfc5389 k v
   is_text f h = by_rule (rw (this_rule q Text f) h)
 
-  pub no_text : OneOf (0 ∷ 1 ∷ 2 ∷ 4 ∷ 5 ∷ []) (tag_of (declared enum) q) → 23 ≡ text_refusal rfc5389 k v
-  unfolding rule_number
-  no_text t = by_rule (rw (another_rule q Text (0 ∷ 1 ∷ 2 ∷ 4 ∷ 5 ∷ []) tt t))
+  pub no_text : (q ≡ Text → ⊥) → 23 ≡ text_refusal rfc5389 k v
+  no_text t = by_rule (rw (another_rule q Text t))
 
 -- an answer and a buffer under what is wrong with a value
 module _ (d v : List ℕ) (k : ℕ) {f w : ℕ} (e : f ≡ w) where
