@@ -5,8 +5,6 @@ use mathlib.Core.Bool.{Bool, true, false}
 use mathlib.Core.Path.{◌≡◌, refl, sym, ap, ap₂, ◌∙◌}
 use native.Mathlib.Omega.{arith}
 use lib.ListN.{length, take, drop, set, replicate, drop_of_length-le}
-use types.Run.{OneOf}
-use denote.Enum.Declared.{tag_of, declared}
 use Rattle.base.specs.Choice.{pick}
 use Rattle.base.specs.LaidLaws.{laid_is}
 use Rattle.base.specs.Laid.{laid}
@@ -24,7 +22,6 @@ use Rattle.registry.specs.AddressLaws as laws
 use Rattle.registry.specs.declared.Rule.{Rule}
 use Rattle.registry.specs.declared.Rule.TheVariants.{Address, XorAddress}
 use Rattle.registry.specs.declared.Entry.{Entry}
-use Rattle.registry.specs.contracts.Rule.{enum}
 use Rattle.write_begin.specs.declared.Written.{Written}
 use Rattle.write_raw.specs.Append.{answer, appended}
 use Rattle.write_typed.specs.Typed.{is_rule, typed}
@@ -41,14 +38,14 @@ module _ (q : Rule) where
   unfolding address_refusal is_rule rule_number
   xor_rule e = rw e
 
-  pub no_address : OneOf (0 ∷ 3 ∷ 4 ∷ 5 ∷ []) (tag_of (declared enum) q) → 23 ≡ address_refusal q
-  unfolding address_refusal rule_number
-  no_address t = rw (another_rule q Address (0 ∷ 3 ∷ 4 ∷ 5 ∷ []) tt t, another_rule q XorAddress (0 ∷ 3 ∷ 4 ∷ 5 ∷ []) tt t)
+  pub no_address : (q ≡ Address → ⊥) → (q ≡ XorAddress → ⊥) → 23 ≡ address_refusal q
+  unfolding address_refusal
+  no_address s t = rw (another_rule q Address s, another_rule q XorAddress t)
 
   module _ (a : SocketAddr) (id : TransactionId) where
-    pub plain_form : OneOf (0 ∷ 1 ∷ 3 ∷ 4 ∷ 5 ∷ []) (tag_of (declared enum) q) → a ≡ given q a id
-    unfolding given rule_number
-    plain_form t = rw (another_rule q XorAddress (0 ∷ 1 ∷ 3 ∷ 4 ∷ 5 ∷ []) tt t)
+    pub plain_form : (q ≡ XorAddress → ⊥) → a ≡ given q a id
+    unfolding given
+    plain_form t = rw (another_rule q XorAddress t)
 
     pub xor_form : {r : SocketAddr} → q ≡ XorAddress → r ≡ addr_xor a id → r ≡ given q a id
     unfolding given

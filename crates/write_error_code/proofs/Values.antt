@@ -36,29 +36,29 @@ above_131 : (v : List ℕ) → 131 < length v → fault rfc5389 0x0009 v ≡ 11
 unfolding fault look entry_fault
 above_131 v h = simp (le-ltb (length v) 4 (omega arith), lt-ltb 131 (length v) h)
 
--- by the four tests, of which the first tells an order and the others a truth
+-- by the four tests
 module _ (e : ErrorCode) (s : List ℕ) where
   pub too_low : e.code < 300 → code_refusal rfc5389 e s ≡ 23
   unfolding code_refusal
   too_low l = simp (lt-ltb e.code 300 l)
 
   module _ (l : 300 ≤ e.code) where
-    pub too_high : ltb 699 e.code ≡ true → code_refusal rfc5389 e s ≡ 23
+    pub too_high : 699 < e.code → code_refusal rfc5389 e s ≡ 23
     unfolding code_refusal
-    too_high h = simp (le-ltb e.code 300 l, h)
+    too_high h = simp (le-ltb e.code 300 l, lt-ltb 699 e.code h)
 
-    module _ (h : ltb 699 e.code ≡ false) where
-      pub too_large : ltb 2097151 e.reserved ≡ true → code_refusal rfc5389 e s ≡ 23
+    module _ (h : e.code ≤ 699) where
+      pub too_large : 2097151 < e.reserved → code_refusal rfc5389 e s ≡ 23
       unfolding code_refusal
-      too_large r = simp (le-ltb e.code 300 l, h, r)
+      too_large r = simp (le-ltb e.code 300 l, le-ltb 699 e.code h, lt-ltb 2097151 e.reserved r)
 
-      module _ (r : ltb 2097151 e.reserved ≡ false) where
+      module _ (r : e.reserved ≤ 2097151) where
         by_value : code_refusal rfc5389 e s ≡ refusal rfc5389 0x0009 (code_value e s)
-        by_value = laws.by_value rfc5389 e s l (ltb-false 699 e.code h) (ltb-false 2097151 e.reserved r)
+        by_value = laws.by_value rfc5389 e s l h r
 
-        pub too_long : ltb 127 (length s) ≡ true → code_refusal rfc5389 e s ≡ 23
+        pub too_long : 127 < length s → code_refusal rfc5389 e s ≡ 23
         unfolding refusal code_value
-        too_long n = by_value ∙ rw (above_131 (code_value e s) (omega (arith, ltb-true 127 (length s) n)))
+        too_long n = by_value ∙ rw (above_131 (code_value e s) (omega arith))
 
         -- what is in range, with a phrase that fits, is judged by its bytes
         module _ (d m : List ℕ) (i : take (4 + length s) m ≡ code_value e s) {w : ℕ} (we : w ≡ refusal rfc5389 0x0009 (take (4 + length s - 0) (drop 0 m))) where

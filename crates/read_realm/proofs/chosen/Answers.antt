@@ -1,0 +1,22 @@
+use native.Mathlib.Omega.{arith}
+use Rattle.registry.specs.Rows.{rfc5389}
+use Rattle.read_first.specs.SaidLaws.{first_one}
+use Rattle.read_first.specs.FirstLaws.{room}
+use Rattle.read_realm.proofs.Choosing.{configured, configured_at, own, own_at}
+use borrow.Author.Rules.{rules}
+use Rattle.read_realm.proofs.chosen.Goals as goal
+
+pub returns-in-Absent : goal.returns-in-Absent
+returns-in-Absent c = (search (configured, first_one), search (configured_at, first_one))
+
+pub returns-in-Found : goal.returns-in-Found
+returns-in-Found c = (search (own, first_one), search (own_at, first_one))
+
+pub overflow_add-value : goal.overflow_add-value
+overflow_add-value c = omega (arith, room rfc5389 _ _ (first_one c.find-f.ensures) c.in-Found.is)
+
+pub overflow_add-result : goal.overflow_add-result
+overflow_add-result c = omega (arith, room rfc5389 _ _ (first_one c.find-f.ensures) c.in-Found.is)
+
+pub slice_bounds-result-end : goal.slice_bounds-result-end
+slice_bounds-result-end c = omega (arith, room rfc5389 _ _ (first_one c.find-f.ensures) c.in-Found.is)

@@ -1,0 +1,6 @@
+use Rattle.write_address.proofs.Values.{form_bytes}
+use borrow.Author.Rules.{rules}
+use Rattle.write_address.proofs.form_bytes.Goals as goal
+
+pub returns : goal.returns
+returns c = search (form_bytes)
