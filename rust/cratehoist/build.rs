@@ -1,11 +1,19 @@
-//! Makes the library where it isn't there yet, and links it.
+//! Has the library proved and compiled where that wasn't done since the last edit, and links it.
 use std::path::Path;
 use std::process::Command;
 
 fn main() {
     let root = Path::new(env!("CARGO_MANIFEST_DIR")).join("../..");
-    for part in ["crates", "crates.txt", "tools"] {
-        println!("cargo:rerun-if-changed={}", root.join(part).display());
+    // what a crate is made of; rt writes beside it
+    let crates = root.join("crates").read_dir().expect("the crates");
+    let crates = crates.map(|folder| folder.expect("a crate").path());
+    let parts = crates.flat_map(|folder| ["src", "specs", "proofs"].map(|part| folder.join(part)));
+    for part in
+        parts.chain(["crates.txt", "tools/native-lib", "tools/prove"].map(|file| root.join(file)))
+    {
+        if part.exists() {
+            println!("cargo:rerun-if-changed={}", part.display());
+        }
     }
     let made = Command::new(root.join("tools/native-lib"))
         .arg("cratehoist")

@@ -26,30 +26,26 @@ fn name_said(n: names::Name) -> Name
     }
 }
 
-#[unsafe(no_mangle)]
-pub extern "C" fn cratehoist_attribute_name(kind: u16) -> Name
+pub fn cratehoist_attribute_name(kind: u16) -> Name
     ensures { result ≡ told (attribute_name kind) }
 {
     name_said(names::attribute(kind))
 }
 
-#[unsafe(no_mangle)]
-pub extern "C" fn cratehoist_code_name(code: u16) -> Name
+pub fn cratehoist_code_name(code: u16) -> Name
     ensures { result ≡ told (code_name code) }
 {
     name_said(names::code(code))
 }
 
-#[unsafe(no_mangle)]
-pub extern "C" fn cratehoist_number_name(number: u8) -> Name
+pub fn cratehoist_number_name(number: u8) -> Name
     ensures { result ≡ told (number_name number) }
 {
     name_said(names::number(number))
 }
 
 // A class above 3 has no name.
-#[unsafe(no_mangle)]
-pub extern "C" fn cratehoist_class_name(message_class: u16) -> Name
+pub fn cratehoist_class_name(message_class: u16) -> Name
     ensures { result ≡ class_told message_class }
 {
     if 3 < message_class {
@@ -61,8 +57,7 @@ pub extern "C" fn cratehoist_class_name(message_class: u16) -> Name
     name_said(names::class(class_numbered(message_class)))
 }
 
-#[unsafe(no_mangle)]
-pub extern "C" fn cratehoist_method_name(method: u16) -> Name
+pub fn cratehoist_method_name(method: u16) -> Name
     ensures { result ≡ told (method_name method) }
 {
     name_said(names::method(Method { code: method }))

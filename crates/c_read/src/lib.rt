@@ -35,8 +35,7 @@ pub struct Step {
     pub next: usize,
 }
 
-#[unsafe(no_mangle)]
-pub extern "C" fn cratehoist_read(datagram: &[u8]) -> Reading
+pub fn cratehoist_read(datagram: &[u8]) -> Reading
     ensures { result ≡ said (reading_of rfc5389 datagram.now) }
 {
     let reading = read_message::read(datagram);
@@ -119,8 +118,7 @@ fn step_said(w: attribute::Walk) -> Step
     }
 }
 
-#[unsafe(no_mangle)]
-pub extern "C" fn cratehoist_walk(datagram: &[u8], place: usize) -> Step
+pub fn cratehoist_walk(datagram: &[u8], place: usize) -> Step
     ensures { result ≡ step_out (walk_said (walk_at datagram.now place)) }
 {
     step_said(attribute::walk_at(datagram, place))

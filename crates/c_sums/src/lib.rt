@@ -14,43 +14,33 @@ pub struct Digest {
     pub bytes: [u8; 20],
 }
 
-#[unsafe(no_mangle)]
-pub extern "C" fn cratehoist_crc32(bytes: &[u8]) -> u32
+pub fn cratehoist_crc32(bytes: &[u8]) -> u32
     ensures { result ≡ crc32_of bytes.now }
 {
     crc32::crc32(bytes)
 }
 
-#[unsafe(no_mangle)]
-pub extern "C" fn cratehoist_is_utf8(bytes: &[u8]) -> bool
+pub fn cratehoist_is_utf8(bytes: &[u8]) -> bool
     ensures { result ≡ is_utf8 bytes.now }
 {
     utf8::is_utf8(bytes)
 }
 
-#[unsafe(no_mangle)]
-pub extern "C" fn cratehoist_sha1(bytes: &[u8]) -> Digest
+pub fn cratehoist_sha1(bytes: &[u8]) -> Digest
     ensures { result.bytes ≡ sha1 bytes.now }
 {
     let digest = sha1_digest::hash(bytes);
     Digest { bytes: digest }
 }
 
-#[unsafe(no_mangle)]
-pub extern "C" fn cratehoist_hmac(key: &[u8], bytes: &[u8]) -> Digest
+pub fn cratehoist_hmac(key: &[u8], bytes: &[u8]) -> Digest
     ensures { result.bytes ≡ hmac_of key.now bytes.now }
 {
     let digest = hmac::hmac(key, bytes);
     Digest { bytes: digest }
 }
 
-#[unsafe(no_mangle)]
-pub extern "C" fn cratehoist_hmac_front(
-    key: &[u8],
-    datagram: &[u8],
-    place: usize,
-    length: u16,
-) -> Digest
+pub fn cratehoist_hmac_front(key: &[u8], datagram: &[u8], place: usize, length: u16) -> Digest
     ensures { result.bytes ≡ hmac_of key.now (with_length (take place datagram.now) length) }
 {
     let digest = hmac::hmac_front(key, datagram, place, length);

@@ -47,8 +47,7 @@ fn behind_code(size: usize) -> usize
 }
 
 // The part is told from what the value says, so that it is judged once.
-#[unsafe(no_mangle)]
-pub extern "C" fn cratehoist_typed_value(kind: u16, value: &[u8], id: Id) -> Typed
+pub fn cratehoist_typed_value(kind: u16, value: &[u8], id: Id) -> Typed
     ensures { result ≡ typed_told (typed_of rfc5389 kind value.now (record { bytes = id.bytes })) (part_at rfc5389 kind value.now) (length (part_of rfc5389 kind value.now)) }
 {
     let bytes = id.bytes;
@@ -99,35 +98,27 @@ pub extern "C" fn cratehoist_typed_value(kind: u16, value: &[u8], id: Id) -> Typ
     }
 }
 
-#[unsafe(no_mangle)]
-pub extern "C" fn cratehoist_refusal(kind: u16, value: &[u8]) -> u8
+pub fn cratehoist_refusal(kind: u16, value: &[u8]) -> u8
     ensures { result ≡ refusal rfc5389 kind value.now }
 {
     write_typed::refusal_of(kind, value)
 }
 
-#[unsafe(no_mangle)]
-pub extern "C" fn cratehoist_append_text(buffer: &mut [u8], kind: u16, text: &[u8]) -> Written
+pub fn cratehoist_append_text(buffer: &mut [u8], kind: u16, text: &[u8]) -> Written
     ensures { (result ≡ told (answer buffer.old (text_refusal rfc5389 kind text.now) (typed kind text.now)))
         × (buffer.new ≡ appended buffer.old (text_refusal rfc5389 kind text.now) (typed kind text.now)) }
 {
     in_numbers(write_typed::append_text(buffer, kind, text))
 }
 
-#[unsafe(no_mangle)]
-pub extern "C" fn cratehoist_append_unknown_attributes(buffer: &mut [u8], types: &[u8]) -> Written
+pub fn cratehoist_append_unknown_attributes(buffer: &mut [u8], types: &[u8]) -> Written
     ensures { (result ≡ told (answer buffer.old (refusal rfc5389 0x000A types.now) (typed 0x000A types.now)))
         × (buffer.new ≡ appended buffer.old (refusal rfc5389 0x000A types.now) (typed 0x000A types.now)) }
 {
     in_numbers(write_typed::append_unknown_attributes(buffer, types))
 }
 
-#[unsafe(no_mangle)]
-pub extern "C" fn cratehoist_append_address(
-    buffer: &mut [u8],
-    kind: u16,
-    address: Address,
-) -> Written
+pub fn cratehoist_append_address(buffer: &mut [u8], kind: u16, address: Address) -> Written
     ensures { (result ≡ told (answer buffer.old (refusal_of kind address) (attr_of buffer.old kind address)))
         × (buffer.new ≡ appended buffer.old (refusal_of kind address) (attr_of buffer.old kind address)) }
 {
@@ -159,8 +150,7 @@ pub extern "C" fn cratehoist_append_address(
     in_numbers(append_value(buffer, 23, kind, b""))
 }
 
-#[unsafe(no_mangle)]
-pub extern "C" fn cratehoist_append_error_code(
+pub fn cratehoist_append_error_code(
     buffer: &mut [u8],
     code: u16,
     reserved: u32,

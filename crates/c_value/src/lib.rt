@@ -41,15 +41,13 @@ fn first_said(f: read_first::First) -> First
     }
 }
 
-#[unsafe(no_mangle)]
-pub extern "C" fn cratehoist_search(bytes: &[u8], kind: u16) -> First
+pub fn cratehoist_search(bytes: &[u8], kind: u16) -> First
     ensures { result ≡ first_out (first_said (placed (first_in kind bytes.now))) }
 {
     first_said(read_first::search(bytes, kind))
 }
 
-#[unsafe(no_mangle)]
-pub extern "C" fn cratehoist_first_value(datagram: &[u8], kind: u16) -> Part
+pub fn cratehoist_first_value(datagram: &[u8], kind: u16) -> Part
     ensures { result ≡ value_in (first rfc5389 kind datagram.now) }
 {
     let f = read_first::find(datagram, kind);
@@ -71,8 +69,7 @@ pub extern "C" fn cratehoist_first_value(datagram: &[u8], kind: u16) -> Part
 }
 
 // A part of the datagram where `there`, else of the configured realm.
-#[unsafe(no_mangle)]
-pub extern "C" fn cratehoist_realm(datagram: &[u8], configured: &[u8]) -> Part
+pub fn cratehoist_realm(datagram: &[u8], configured: &[u8]) -> Part
     ensures { result ≡ realm_in datagram.now configured.now }
 {
     let f = read_first::find(datagram, read_realm::REALM);
@@ -93,8 +90,7 @@ pub extern "C" fn cratehoist_realm(datagram: &[u8], configured: &[u8]) -> Part
     }
 }
 
-#[unsafe(no_mangle)]
-pub extern "C" fn cratehoist_check_integrity(datagram: &[u8], key: &[u8]) -> u8
+pub fn cratehoist_check_integrity(datagram: &[u8], key: &[u8]) -> u8
     ensures { result ≡ integrity_fault rfc5389 datagram.now key.now }
 {
     read_integrity::check_integrity(datagram, key)

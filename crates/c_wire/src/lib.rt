@@ -55,8 +55,7 @@ fn form_of(family: Family, address: Address, id: Id) -> XorForm
 }
 
 // A family that is none is refused by 12.
-#[unsafe(no_mangle)]
-pub extern "C" fn cratehoist_address_xor(address: Address, id: Id) -> XorForm
+pub fn cratehoist_address_xor(address: Address, id: Id) -> XorForm
     ensures { result ≡ form_of address id }
 {
     if address.family == 1 {

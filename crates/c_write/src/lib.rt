@@ -30,13 +30,7 @@ pub fn in_numbers(w: write_begin::Written) -> Written
 }
 
 // A class above 3 is refused as a method above 4,095 is, by 22.
-#[unsafe(no_mangle)]
-pub extern "C" fn cratehoist_begin(
-    buffer: &mut [u8],
-    message_class: u16,
-    method: u16,
-    id: Id,
-) -> Written
+pub fn cratehoist_begin(buffer: &mut [u8], message_class: u16, method: u16, id: Id) -> Written
     ensures { (result ≡ begun_by buffer.old message_class method) × (buffer.new ≡ left_by buffer.old message_class method id) }
 {
     if 3 < message_class {
@@ -55,29 +49,21 @@ pub extern "C" fn cratehoist_begin(
     ))
 }
 
-#[unsafe(no_mangle)]
-pub extern "C" fn cratehoist_append_raw(
-    buffer: &mut [u8],
-    kind: u16,
-    value: &[u8],
-    padding: &[u8],
-) -> Written
+pub fn cratehoist_append_raw(buffer: &mut [u8], kind: u16, value: &[u8], padding: &[u8]) -> Written
     ensures { (result ≡ told (answer buffer.old 0 (attr kind value.now padding.now)))
         × (buffer.new ≡ appended buffer.old 0 (attr kind value.now padding.now)) }
 {
     in_numbers(write_raw::append_raw(buffer, kind, value, padding))
 }
 
-#[unsafe(no_mangle)]
-pub extern "C" fn cratehoist_append_fingerprint(buffer: &mut [u8]) -> Written
+pub fn cratehoist_append_fingerprint(buffer: &mut [u8]) -> Written
     ensures { (result ≡ told (answer buffer.old 0 (fingerprint buffer.old)))
         × (buffer.new ≡ appended buffer.old 0 (fingerprint buffer.old)) }
 {
     in_numbers(write_close::append_fingerprint(buffer))
 }
 
-#[unsafe(no_mangle)]
-pub extern "C" fn cratehoist_append_message_integrity(buffer: &mut [u8], key: &[u8]) -> Written
+pub fn cratehoist_append_message_integrity(buffer: &mut [u8], key: &[u8]) -> Written
     ensures { (result ≡ told (answer buffer.old 0 (integrity key.now buffer.old)))
         × (buffer.new ≡ appended buffer.old 0 (integrity key.now buffer.old)) }
 {
