@@ -2,11 +2,7 @@ pub mod Attribute
 pub mod Walk
 pub mod Visits
 pub mod WalkLaws
-pub mod BodyLaws
 pub mod Good
-pub mod RoundTripLaws
 pub mod Scan
-pub mod ScanLaws
 pub mod PassLaws
 pub mod SaidLaws
-pub mod CoverLaws

@@ -6,7 +6,7 @@ use lib.Bits.{bit_xor, xor_zero_l, xor_zero_r}
 use Rattle.base.specs.XorLaws.{xor_assoc}
 use Rattle.crc.specs.Crc.{bit_step}
 use Rattle.crc.specs.Octets.{times}
-use Rattle.crc.specs.ProductLaws.{times_nought}
+use Rattle.crc.proofs.ProductLaws.{times_nought}
 use Rattle.crc.specs.Taken.{Taken, comes_to}
 use Rattle.crc.specs.declared.Factors.{Factors}
 

@@ -1,2 +1,3 @@
 mod Determined
 mod Making
+pub mod TablesLaws

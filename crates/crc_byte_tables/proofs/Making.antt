@@ -10,10 +10,10 @@ use lib.Seq.{take-suc-set, take_all, get_or-take}
 use lib.Bits.{bit_xor, xor_zero_r}
 use Rattle.crc.specs.Crc.{bit_steps, byte_step, bytes_from}
 use Rattle.crc.specs.Octets.{octets}
-use Rattle.crc.specs.CrcLaws.{bit_steps-split, octets_add}
+use Rattle.crc.proofs.CrcLaws.{bit_steps-split, octets_add}
 use Rattle.crc_nibbles.specs.Rows.{four_halves}
 use Rattle.crc_byte_tables.specs.Tables.{byte_rows, by_bytes, four_by, eight_by}
-use Rattle.crc_byte_tables.specs.TablesLaws.{four_few, byte_entry}
+use Rattle.crc_byte_tables.proofs.TablesLaws.{four_few, byte_entry}
 
 module _ (t : List ℕ) (x : ℕ) where
   pub bytes_are : (r : ℕ) {a b c d : ℕ} → a ≡ get_or t (r * 256 + 768 + x % 256) 0 → b ≡ get_or t (r * 256 + 512 + x / 256 % 256) 0

@@ -8,7 +8,7 @@ use lib.Pow.{shl_exact}
 use lib.Bits.{bit_xor, xor_zero_l, xor_lt}
 use Rattle.crc.specs.Crc.{bit_steps, bytes_from}
 use Rattle.crc.specs.Octets.{octets, word}
-use Rattle.crc.specs.CrcLaws.{bit_steps-add, bit_steps-shift, octets_lt}
+use Rattle.crc.proofs.CrcLaws.{bit_steps-add, bit_steps-shift, octets_lt}
 use Rattle.crc_nibbles.specs.Rows.{Rows, four_halves}
 use Rattle.crc_nibbles.specs.RowsLaws.{four_halves_lem}
 use Rattle.crc_folds.specs.Waits.{far, folded, Fits, Waits}

@@ -9,8 +9,8 @@ use lib.Pow.{pow_pos, shl_lt}
 use lib.Bits.{bit_xor, xor_comm, xor_lt}
 use Rattle.crc.specs.Crc.{bit_step, bit_steps, bytes_from}
 use Rattle.crc.specs.Octets.{octets, times}
-use Rattle.crc.specs.CrcLaws.{bit_steps-xor, bit_steps-add, bit_steps-shift, bit_steps-split, bit_steps-down, wider, carried}
-use Rattle.crc.specs.ProductLaws.{times_xor, product_steps}
+use Rattle.crc.proofs.CrcLaws.{bit_steps-xor, bit_steps-add, bit_steps-shift, bit_steps-split, bit_steps-down, wider, carried}
+use Rattle.crc.proofs.ProductLaws.{times_xor, product_steps}
 use Rattle.crc_folds.specs.Waits.{Taps, tap, both, spread, far, near, folded}
 
 -- how far the taps reach beyond k

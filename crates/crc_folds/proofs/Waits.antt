@@ -11,7 +11,7 @@ use lib.Bits.{bit_xor, xor_zero_r, xor_comm, xor_lt, xor_shifted, xor_block}
 use Rattle.base.specs.XorLaws.{xor_assoc, xor_swap}
 use Rattle.crc.specs.Crc.{bit_steps, bytes_from}
 use Rattle.crc.specs.Octets.{octets, word}
-use Rattle.crc.specs.CrcLaws.{bit_steps-add, bit_steps-over, bit_steps-split, bit_steps-down, wider}
+use Rattle.crc.proofs.CrcLaws.{bit_steps-add, bit_steps-over, bit_steps-split, bit_steps-down, wider}
 use Rattle.crc_nibbles.specs.Rows.{Rows, four_halves, bytes_halves}
 use Rattle.crc_nibbles.specs.RowsLaws.{four_halves_lem, bytes_halves_lem}
 use Rattle.crc_folds.specs.Waits.{over, register, Taps, tap, both, spread, far, seven, near, folded, Fits, Waits}

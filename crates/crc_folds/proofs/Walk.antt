@@ -10,7 +10,7 @@ use lib.Bits.{bit_xor}
 use Rattle.base.specs.BytesLaws.{bytes, take-bytes, drop-bytes}
 use Rattle.crc.specs.Crc.{bytes_from}
 use Rattle.crc.specs.Octets.{octets, word}
-use Rattle.crc.specs.CrcLaws.{bytes_from-append, at_once, word_lt}
+use Rattle.crc.proofs.CrcLaws.{bytes_from-append, at_once, word_lt}
 
 pub part : (n : ℕ) (s : List ℕ) (i r : ℕ) → n ≤ length s - i
     → bytes_from (octets n (bit_xor r (word (take n (drop i s))))) (drop (i + n) s) ≡ bytes_from r (drop i s)

@@ -8,7 +8,7 @@ use Rattle.base.specs.Choice.{pick}
 use Rattle.base.specs.XorLaws.{xor_assoc}
 use Rattle.crc.specs.Crc.{bit_steps, byte_step, bytes_from}
 use Rattle.crc.specs.Octets.{octets}
-use Rattle.crc.specs.CrcLaws.{bit_steps-zero, bit_steps-xor, bit_steps-add, bit_steps-split, octets_suc, octets_xor}
+use Rattle.crc.proofs.CrcLaws.{bit_steps-zero, bit_steps-xor, bit_steps-add, bit_steps-split, octets_suc, octets_xor}
 use Rattle.crc_nibbles.specs.Rows.{Rows, halves, by_halves, four_halves, byte_by_byte, bytes_halves}
 
 both_left : (a b : Bool) → T (pick a b false) → T a

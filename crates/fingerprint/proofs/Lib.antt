@@ -1,2 +1,3 @@
 mod Sums
 mod Determined
+pub mod StretchLaws

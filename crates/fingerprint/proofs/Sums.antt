@@ -10,7 +10,7 @@ use lib.Bits.{bit_xor}
 use Rattle.big_endian.specs.Numbers.{be16, two, with_length}
 use Rattle.big_endian.specs.NumbersLaws.{four_at}
 use Rattle.crc.specs.Crc.{bytes_from, finished, crc32_of}
-use Rattle.crc.specs.CrcLaws.{bytes_from-append}
+use Rattle.crc.proofs.CrcLaws.{bytes_from-append}
 use Rattle.fingerprint.specs.Fingerprint.{fingerprint_at, printed}
 use Rattle.fingerprint.specs.FingerprintLaws.{owes_sum}
 use Rattle.fingerprint.specs.RegisterLaws.{parts}

@@ -2,4 +2,3 @@ pub mod Fingerprint
 pub mod FingerprintLaws
 pub mod Register
 pub mod RegisterLaws
-pub mod StretchLaws

@@ -13,8 +13,8 @@ use Rattle.base.specs.ListLaws.{drop-take}
 use Rattle.big_endian.specs.Numbers.{two, with_length}
 use Rattle.crc.specs.Crc.{bytes_from, finished, crc32_of}
 use Rattle.crc.specs.Octets.{octets, word, times}
-use Rattle.crc.specs.CrcLaws.{bit_steps-shift, octets_add, octets_xor, bytes_from-append, at_once, patched, low_byte}
-use Rattle.crc.specs.ProductLaws.{product}
+use Rattle.crc.proofs.CrcLaws.{bit_steps-shift, octets_add, octets_xor, bytes_from-append, at_once, patched, low_byte}
+use Rattle.crc.proofs.ProductLaws.{product}
 use Rattle.fingerprint.specs.Fingerprint.{fingerprint_at}
 use Rattle.fingerprint.specs.Register.{register, field}
 

@@ -9,7 +9,7 @@ use Rattle.big_endian.specs.Numbers.{two, with_length}
 use Rattle.big_endian.specs.NumbersLaws.{four_at}
 use Rattle.crc.specs.Crc.{bit_step, bit_steps, bytes_from, finished}
 use Rattle.crc.specs.Octets.{octets, word, times}
-use Rattle.crc.specs.CrcLaws.{bytes_from-append, octets_add, octets_xor, octets_lt, at_once, apart, low_byte}
+use Rattle.crc.proofs.CrcLaws.{bytes_from-append, octets_add, octets_xor, octets_lt, at_once, apart, low_byte}
 use Rattle.crc_byte_tables.specs.Tables.{Steps, four_by, eight_by}
 use Rattle.fingerprint.specs.Fingerprint.{printed}
 use Rattle.fingerprint.specs.FingerprintLaws.{owes_sum}

@@ -8,9 +8,9 @@ use lib.ListN.{length, take, drop, length-take, length-drop}
 use Rattle.attribute.specs.Attribute.{Body, attrs, parse}
 use Rattle.attribute.specs.Walk.{step_at}
 use Rattle.attribute.specs.WalkLaws.{Ahead, ahead, Stops, seen}
-use Rattle.attribute.specs.BodyLaws.{body_seen, stopped}
+use Rattle.attribute.proofs.BodyLaws.{body_seen, stopped}
 use Rattle.attribute.specs.Visits as visits
-use Rattle.attribute.specs.ScanLaws.{found_length}
+use Rattle.attribute.proofs.ScanLaws.{found_length}
 use Rattle.attribute.specs.declared.Walk.{Walk}
 use Rattle.attribute.specs.declared.Walk.TheVariants.{Attribute}
 use Rattle.read_first.specs.declared.First.TheVariants.{Found, Absent}

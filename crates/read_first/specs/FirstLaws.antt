@@ -6,9 +6,9 @@ use Rattle.std.proofs.Math.Path.{ap}
 use Rattle.base.specs.Choice.{pick}
 use Rattle.attribute.specs.Attribute.{Attr, Body, stop, more, attrs, bytes_of, parse}
 use Rattle.attribute.specs.WalkLaws.{At, beyond, ended, short, long, attribute, view, Ahead, ahead}
-use Rattle.attribute.specs.BodyLaws.{body_of, unroll}
+use Rattle.attribute.proofs.BodyLaws.{body_of, unroll}
 use Rattle.attribute.specs.Visits as visits
-use Rattle.attribute.specs.ScanLaws.{found_length}
+use Rattle.attribute.proofs.ScanLaws.{found_length}
 use Rattle.attribute.specs.declared.Walk.{Walk}
 use Rattle.registry.specs.declared.Row.{Row}
 use Rattle.read_first.specs.declared.First.{First}

@@ -17,7 +17,7 @@ use Rattle.attribute.specs.Attribute.{padded, Attr, all_bytes}
 use Rattle.attribute.specs.Attribute as one
 use Rattle.attribute.specs.Good.{Good}
 use Rattle.attribute.specs.Visits.{Visits, placed}
-use Rattle.attribute.specs.CoverLaws.{placed_one, visits, visits_one}
+use Rattle.attribute.proofs.CoverLaws.{placed_one, visits, visits_one}
 use Rattle.write_begin.specs.declared.Written.TheVariants.{Total}
 use Rattle.write_plan.specs.Plan.{size_of}
 use Rattle.write_plan.specs.PlanLaws.{Going, message}

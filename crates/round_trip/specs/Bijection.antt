@@ -17,7 +17,7 @@ use Rattle.header.specs.Header.{header_fault, id_of}
 use Rattle.header.specs.HeaderLaws.{Checked, checked, unrefused}
 use Rattle.attribute.specs.Attribute.{padded, Attr, attrs, rest, parse, all_bytes}
 use Rattle.attribute.specs.Good.{Goods}
-use Rattle.attribute.specs.RoundTripLaws.{goods_read, decode_all_bytes, all_bytes-decode}
+use Rattle.attribute.proofs.RoundTripLaws.{goods_read, decode_all_bytes, all_bytes-decode}
 use Rattle.write_begin.specs.Begin.{head_bytes}
 use Rattle.round_trip.specs.Message.{Message, bytes_of, message_of, Octets, Shaped, Writable, Sound}
 use Rattle.round_trip.specs.FrontLaws.{head_length, head_size, head_type, head_fault, head_body}

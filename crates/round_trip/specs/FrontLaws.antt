@@ -17,7 +17,7 @@ use Rattle.cookie.specs.Cookie.{cookie_at}
 use Rattle.header.specs.Header.{front_fault}
 use Rattle.attribute.specs.Attribute.{padded, Attr, rest, parse, bytes_of, all_bytes}
 use Rattle.attribute.specs.Good.{Good, Goods}
-use Rattle.attribute.specs.RoundTripLaws.{decode_all_bytes}
+use Rattle.attribute.proofs.RoundTripLaws.{decode_all_bytes}
 use Rattle.write_begin.specs.Begin.{head_bytes}
 use Rattle.write_begin.specs.declared.Written.TheVariants.{Total}
 use Rattle.write_plan.specs.Plan.{size_of, message_fault, body_with}

@@ -15,7 +15,7 @@ use Rattle.wire.specs.TypeLaws.{class_back, method_back, type_below, class_small
 use Rattle.wire.specs.declared.types.MessageClass.{MessageClass}
 use Rattle.header.specs.Header.{front_fault, header_fault, id_of}
 use Rattle.attribute.specs.Attribute.{stop, attrs, rest, parse}
-use Rattle.attribute.specs.BodyLaws.{parse_none}
+use Rattle.attribute.proofs.BodyLaws.{parse_none}
 use Rattle.registry.specs.declared.Row.{Row}
 use Rattle.read_message.specs.Reading.{reading_of}
 use Rattle.read_message.specs.Whole.{Whole, attributes}

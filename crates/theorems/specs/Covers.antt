@@ -10,7 +10,7 @@ use Rattle.wire.specs.declared.types.MessageClass.{MessageClass}
 use Rattle.header.specs.HeaderLaws.{sized}
 use Rattle.attribute.specs.Attribute.{Attr, rest, parse}
 use Rattle.attribute.specs.Visits.{sizes, Visits, placed}
-use Rattle.attribute.specs.CoverLaws.{sizes_rest, sizes_least, visits, visits_one}
+use Rattle.attribute.proofs.CoverLaws.{sizes_rest, sizes_least, visits, visits_one}
 use Rattle.registry.specs.declared.Row.{Row}
 use Rattle.read_message.specs.Reading.{reading_of}
 use Rattle.read_message.specs.Whole.{Whole, attributes}

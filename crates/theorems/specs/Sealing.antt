@@ -11,7 +11,7 @@ use Rattle.base.specs.Bytes.{Bytes}
 use Rattle.big_endian.specs.Numbers.{four, with_length}
 use Rattle.crc.specs.Crc.{bit_steps, byte_step, bytes_from, crc32_of}
 use Rattle.crc.specs.Octets.{octets}
-use Rattle.crc.specs.CrcLaws.{octets_lt}
+use Rattle.crc.proofs.CrcLaws.{octets_lt}
 use Rattle.wire.specs.declared.method.Method.{Method}
 use Rattle.wire.specs.declared.types.MessageClass.{MessageClass}
 use Rattle.attribute.specs.Attribute.{Attr}

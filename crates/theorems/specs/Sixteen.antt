@@ -23,7 +23,7 @@ use Rattle.wire.specs.declared.types.MessageClass.{MessageClass}
 use Rattle.header.specs.Header.{front_fault, header_fault, id_of}
 use Rattle.header.specs.HeaderLaws.{sized}
 use Rattle.attribute.specs.Attribute.{Attr, Body, stop, more, attrs, rest, parse, bytes_of, all_bytes}
-use Rattle.attribute.specs.RoundTripLaws.{write_read}
+use Rattle.attribute.proofs.RoundTripLaws.{write_read}
 use Rattle.attribute.specs.Scan.{scan, scanned, Pass}
 use Rattle.attribute.specs.declared.Scan.{Scan}
 use Rattle.attribute.specs.declared.Scan.TheVariants.{Passed, Fault}

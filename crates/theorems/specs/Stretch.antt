@@ -13,10 +13,10 @@ use Rattle.big_endian.specs.Numbers.{be16, four}
 use Rattle.header.specs.HeaderLaws.{long, sized}
 use Rattle.attribute.specs.Attribute.{Attr, attrs, parse, bytes_of, all_bytes}
 use Rattle.attribute.specs.Good.{Good, Goods}
-use Rattle.attribute.specs.RoundTripLaws.{goods_read, write_read}
+use Rattle.attribute.proofs.RoundTripLaws.{goods_read, write_read}
 use Rattle.fingerprint.specs.Fingerprint.{fingerprint_at, printed}
 use Rattle.fingerprint.specs.FingerprintLaws.{owes_sum}
-use Rattle.fingerprint.specs.StretchLaws.{Sealed, stretch_sealed}
+use Rattle.fingerprint.proofs.StretchLaws.{Sealed, stretch_sealed}
 use Rattle.registry.specs.declared.Row.{Row}
 use Rattle.attribute.specs.Scan.{Pass}
 use Rattle.read_fingerprints.specs.Fingerprints.{print_fault, print_faults}

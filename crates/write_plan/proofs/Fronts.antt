@@ -17,7 +17,7 @@ use Rattle.header.specs.declared.Head.TheVariants.{Good, Refused}
 use Rattle.attribute.specs.Attribute.{rest, parse}
 use Rattle.attribute.specs.Walk.{step_at}
 use Rattle.attribute.specs.WalkLaws.{Ahead, ahead, Stops, seen}
-use Rattle.attribute.specs.BodyLaws.{body_seen, stopped}
+use Rattle.attribute.proofs.BodyLaws.{body_seen, stopped}
 use Rattle.attribute.specs.declared.Walk.{Walk}
 use Rattle.attribute.specs.declared.Walk.TheVariants.{Attribute}
 use Rattle.write_plan.specs.Plan.{none, covers, size_of, message_fault}

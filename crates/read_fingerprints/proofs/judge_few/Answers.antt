@@ -1,7 +1,7 @@
 -- The table of half bytes passes the test of its rule.
 use Rattle.crc.specs.Crc.{bit_step, bit_steps}
 use Rattle.crc_nibbles.specs.RowsLaws.{rows}
-use Rattle.crc_byte_tables.specs.TablesLaws.{rows_steps}
+use Rattle.crc_byte_tables.proofs.TablesLaws.{rows_steps}
 use borrow.Author.Rules.{rules}
 use Rattle.read_fingerprints.proofs.judge_few.Goals as goal
 

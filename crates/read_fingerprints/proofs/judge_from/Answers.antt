@@ -1,4 +1,4 @@
-use Rattle.crc_byte_tables.specs.TablesLaws.{byte_steps}
+use Rattle.crc_byte_tables.proofs.TablesLaws.{byte_steps}
 use borrow.Author.Rules.{rules}
 use Rattle.read_fingerprints.proofs.judge_from.Goals as goal
 

@@ -2,7 +2,7 @@ use Prim.Native.Nat.{◌-◌}
 use native.Mathlib.Omega.{arith}
 use lib.ListN.{length}
 use Rattle.attribute.specs.Scan.{scanned}
-use Rattle.attribute.specs.ScanLaws.{Scanning, start, passed, cut, within, less}
+use Rattle.attribute.proofs.ScanLaws.{Scanning, start, passed, cut, within, less}
 use Rattle.attribute.specs.SaidLaws.{walk_one}
 use Rattle.attribute.proofs.Stops.{stops}
 use Rattle.registry.specs.Rows.{rfc5389}

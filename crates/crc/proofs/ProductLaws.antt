@@ -6,7 +6,7 @@ use Rattle.std.specs.Int.Bits.{bit_xor, xor_shifted}
 use Rattle.base.specs.XorLaws.{xor_swap}
 use Rattle.crc.specs.Crc.{bit_step, bit_steps}
 use Rattle.crc.specs.Octets.{octets, times}
-use Rattle.crc.specs.CrcLaws.{digit_xor, bit_step-xor, bit_steps-xor, bit_steps-add, bit_steps-shift, bit_steps-zero}
+use Rattle.crc.proofs.CrcLaws.{digit_xor, bit_step-xor, bit_steps-xor, bit_steps-add, bit_steps-shift, bit_steps-zero}
 
 -- the product is linear in m
 pub times_xor : (k t m n : ℕ) → t < 2 ^ 32 → times k t (bit_xor m n) ≡ bit_xor (times k t m) (times k t n)

@@ -6,7 +6,7 @@ use Rattle.attribute.specs.Attribute.{Attr, stop, more, bytes_of, parse}
 use Rattle.attribute.specs.Walk.{step_at}
 use Rattle.attribute.specs.Visits.{found}
 use Rattle.attribute.specs.WalkLaws.{ended, Ahead, ahead, Stops, seen}
-use Rattle.attribute.specs.BodyLaws.{unroll, body_seen, stopped}
+use Rattle.attribute.proofs.BodyLaws.{unroll, body_seen, stopped}
 use Rattle.attribute.specs.Scan.{scan, scanned}
 use Rattle.attribute.specs.declared.Walk.{Walk}
 use Rattle.attribute.specs.declared.Walk.TheVariants.{Attribute}

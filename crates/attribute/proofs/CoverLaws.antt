@@ -11,8 +11,8 @@ use Rattle.attribute.specs.Attribute.{padded, Attr, Body, stop, more, attrs, res
 use Rattle.attribute.specs.Walk.{step_at, walk_at}
 use Rattle.attribute.specs.Visits.{found, Visits, over, meets, placed, sizes}
 use Rattle.attribute.specs.WalkLaws.{At, beyond, ended, short, long, attribute, view, at_step, ahead}
-use Rattle.attribute.specs.BodyLaws.{body_of, unroll}
-use Rattle.attribute.specs.ScanLaws.{found_length}
+use Rattle.attribute.proofs.BodyLaws.{body_of, unroll}
+use Rattle.attribute.proofs.ScanLaws.{found_length}
 use Rattle.attribute.specs.declared.Walk.{Walk}
 
 size_case : (a b c e : ℕ) (r : List ℕ) (x : Body) → sizes (attrs x) + length (rest x) ≡ length r - padded (c * 256 + e)

@@ -12,7 +12,7 @@ use Rattle.base.specs.XorLaws.{xor_cancel}
 use Rattle.big_endian.specs.Numbers.{be16, four, with_length}
 use Rattle.big_endian.specs.NumbersLaws.{four_once}
 use Rattle.crc.specs.Crc.{crc32_of}
-use Rattle.crc.specs.BurstLaws.{burst_at}
+use Rattle.crc.proofs.BurstAtLaws.{burst_at}
 use Rattle.fingerprint.specs.Fingerprint.{fingerprint_at}
 
 -- d ends in a right FINGERPRINT that starts at p, and its length field says so

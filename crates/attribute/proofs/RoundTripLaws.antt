@@ -7,7 +7,7 @@ use Rattle.base.specs.Choice.{pick}
 use Rattle.base.specs.Bytes.{Bytes}
 use Rattle.attribute.specs.Attribute.{padded, Attr, Body, stop, more, attrs, rest, attr_of, parse, bytes_of, all_bytes}
 use Rattle.attribute.specs.Good.{Good, Goods}
-use Rattle.attribute.specs.BodyLaws.{parse_none, parse_attr}
+use Rattle.attribute.proofs.BodyLaws.{parse_none, parse_attr}
 
 -- the attributes xs, and then what b is
 abbrev pub before : List Attr → Body → Body

@@ -6,7 +6,7 @@ use Rattle.std.proofs.Math.Seq.{take-append_seam, drop-append_seam}
 use Rattle.utf8_spec.specs.Utf8.{UTF8-char, Among, Octets, end, char, width, is_utf8}
 use Rattle.utf8_spec.specs.Utf8Laws.{char_some, width_char, utf8_empty, utf8_char, yes_octets}
 use Rattle.utf8_spec.specs.Scalars.{Scalars, encode, join, Joined}
-use Rattle.utf8_spec.specs.ScalarsLaws.{Encoded, char_encoded, scalar_char, encode_once}
+use Rattle.utf8_spec.proofs.ScalarsLaws.{Encoded, char_encoded, scalar_char, encode_once}
 use Rattle.utf8_spec.specs.Points.{points}
 use Rattle.utf8_spec.specs.PointsLaws.{char_points}
 

@@ -1,0 +1,2 @@
+pub mod ScalarsLaws
+pub mod BijectionLaws
