@@ -7,7 +7,7 @@ use native.Mathlib.Omega.{arith}
 use lib.ListN.{length, take, drop, length-take, length-drop}
 use Rattle.registry.specs.Rows.{rfc5389}
 use Rattle.read_first.specs.First.{first_said, first, placed, is_there, value_of, value_at}
-use Rattle.read_first.specs.FirstLaws as laws
+use Rattle.read_first.proofs.FirstLaws as laws
 use Rattle.read_first.specs.declared.First as value
 use Rattle.read_first.specs.declared.First.TheVariants.{Found, Absent}
 use Rattle.read_realm.specs.Realm.{realm_of}

@@ -14,7 +14,7 @@ use Rattle.read_message.specs.declared.Reading.{Reading}
 use Rattle.read_first.specs.declared.First.{First}
 use Rattle.read_first.specs.declared.First.TheVariants.{Found, Absent}
 use Rattle.read_first.specs.First.{none, first_in, whole_by, is_whole, first, placed, is_there}
-use Rattle.read_first.specs.FirstLaws.{part, absent}
+use Rattle.read_first.proofs.FirstLaws.{part, absent}
 
 module _ (d : List ℕ) (k : ℕ) {r : Reading} (e : r ≡ reading_of rfc5389 d) where
   by_answer : {a : Answer} → r.answer ≡ a → first rfc5389 k d ≡ pick (whole_by a) (first_in k d) none

@@ -1,3 +1,5 @@
 mod Searching
 mod Finding
 mod Determined
+pub mod FirstLaws
+pub mod WholeLaws

@@ -1,4 +1,2 @@
 pub mod First
 pub mod SaidLaws
-pub mod FirstLaws
-pub mod WholeLaws

@@ -21,9 +21,9 @@ use Rattle.read_message.specs.declared.Reading.{Reading}
 use Rattle.read_first.specs.declared.First.{First}
 use Rattle.read_first.specs.declared.First.TheVariants.{Found, Absent}
 use Rattle.read_first.specs.First.{starts, first_in, whole_by, is_whole, first, placed, value_of}
-use Rattle.read_first.specs.FirstLaws.{Told, told, part_in, absent}
+use Rattle.read_first.proofs.FirstLaws.{Told, told, part_in, absent}
 use Rattle.header.specs.HeaderLaws.{sized}
-use Rattle.read_first.specs.WholeLaws.{passes, served}
+use Rattle.read_first.proofs.WholeLaws.{passes, served}
 use Rattle.base.specs.Same.{same}
 use Rattle.big_endian.specs.Numbers.{with_length}
 use Rattle.hmac.specs.Hmac.{hmac_of}

@@ -5,7 +5,7 @@ use Rattle.base.specs.Choice.{pick}
 use Rattle.registry.specs.declared.Row.{Row}
 use Rattle.read_message.specs.Reading.{reading_said, reading_of}
 use Rattle.read_first.specs.First.{Place, none, starts, first_in, is_whole}
-use Rattle.read_first.specs.WholeLaws.{number_whole}
+use Rattle.read_first.proofs.WholeLaws.{number_whole}
 use Rattle.base.specs.SameLaws.{same_eq, same_refl}
 use Rattle.base.specs.Same.{same}
 use Rattle.read_integrity.specs.Integrity.{integrity_at, compared_at, compared, integrity_fault, Signed}

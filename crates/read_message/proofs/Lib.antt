@@ -2,3 +2,4 @@ mod Fronts
 mod Scans
 mod Answers
 mod Determined
+pub mod WholeLaws

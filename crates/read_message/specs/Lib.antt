@@ -2,4 +2,3 @@ pub mod Reading
 pub mod SaidLaws
 pub mod Front
 pub mod Whole
-pub mod WholeLaws

@@ -8,7 +8,7 @@ use Rattle.registry.specs.Rows.{rfc5389}
 use Rattle.read_first.specs.declared.First.{First}
 use Rattle.read_first.specs.declared.First.TheVariants.{Found, Absent}
 use Rattle.read_first.specs.First.{first, placed, is_there}
-use Rattle.read_first.specs.FirstLaws.{part, absent, value, value_at_lem}
+use Rattle.read_first.proofs.FirstLaws.{part, absent, value, value_at_lem}
 use Rattle.read_realm.specs.Realm.{realm_of, realm_at}
 
 module _ (d s : List ℕ) {f : First} (e : f ≡ placed (first rfc5389 0x0014 d)) where

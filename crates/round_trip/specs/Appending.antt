@@ -20,8 +20,8 @@ use Rattle.attribute.specs.Visits.{Visits, placed}
 use Rattle.attribute.proofs.CoverLaws.{placed_one, visits, visits_one}
 use Rattle.write_begin.specs.declared.Written.TheVariants.{Total}
 use Rattle.write_plan.specs.Plan.{size_of}
-use Rattle.write_plan.specs.PlanLaws.{Going, message}
-use Rattle.write_plan.specs.PlanLaws as plan
+use Rattle.write_plan.proofs.PlanLaws.{Going, message}
+use Rattle.write_plan.proofs.PlanLaws as plan
 use Rattle.write_raw.specs.Append.{answer, appended}
 use Rattle.write_raw.specs.AppendLaws.{total_goes}
 use Rattle.round_trip.specs.Message.{Message, bytes_of, message_of, Shaped, Sound, with, held}

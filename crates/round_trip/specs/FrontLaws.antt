@@ -21,7 +21,7 @@ use Rattle.attribute.proofs.RoundTripLaws.{decode_all_bytes}
 use Rattle.write_begin.specs.Begin.{head_bytes}
 use Rattle.write_begin.specs.declared.Written.TheVariants.{Total}
 use Rattle.write_plan.specs.Plan.{size_of, message_fault, body_with}
-use Rattle.write_plan.specs.PlanLaws.{message_is, goes, plan_is}
+use Rattle.write_plan.proofs.PlanLaws.{message_is, goes, plan_is}
 use Rattle.write_plan.specs.declared.Plan.TheVariants.{Go}
 use Rattle.write_raw.specs.Append.{answered, written, plan_for, answer, appended}
 

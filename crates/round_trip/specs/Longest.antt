@@ -12,7 +12,7 @@ use Rattle.wire.specs.TypeLaws.{type_below, class_small}
 use Rattle.wire.specs.declared.types.MessageClass.TheVariants.{Request}
 use Rattle.attribute.specs.Attribute.{padded, Attr, all_bytes}
 use Rattle.write_begin.specs.declared.Written.TheVariants.{Total, Refused}
-use Rattle.write_plan.specs.PlanLaws.{long, plan_is}
+use Rattle.write_plan.proofs.PlanLaws.{long, plan_is}
 use Rattle.write_raw.specs.Append.{attr, answered, plan_for, answer}
 use Rattle.round_trip.specs.Message.{Message, bytes_of, Shaped, write, said}
 use Rattle.round_trip.specs.FrontLaws.{front, is_message, body_is}

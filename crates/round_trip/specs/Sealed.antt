@@ -31,14 +31,14 @@ use Rattle.registry.specs.Fault.{rule_fault, entry_fault, fault}
 use Rattle.read_fingerprints.specs.Fingerprints.{print_fault, print_faults}
 use Rattle.read_message.specs.Reading.{value_faults, reading_of}
 use Rattle.read_message.specs.Whole.{attributes}
-use Rattle.read_message.specs.WholeLaws.{Parts, parts, parts_told, told_whole}
+use Rattle.read_message.proofs.WholeLaws.{Parts, parts, parts_told, told_whole}
 use Rattle.read_message.specs.declared.Answer.TheVariants.{Whole}
 use Rattle.read_message.specs.declared.Reading.{Reading}
 use Rattle.write_begin.specs.Begin.{head_bytes}
 use Rattle.write_begin.specs.declared.Written.TheVariants.{Total}
 use Rattle.write_plan.specs.Plan.{size_of}
-use Rattle.write_plan.specs.PlanLaws.{Going, message}
-use Rattle.write_plan.specs.PlanLaws as plan
+use Rattle.write_plan.proofs.PlanLaws.{Going, message}
+use Rattle.write_plan.proofs.PlanLaws as plan
 use Rattle.write_raw.specs.Append.{answer, appended}
 use Rattle.write_raw.specs.AppendLaws.{total_goes}
 use Rattle.read_integrity.specs.Integrity.{integrity_at}

@@ -10,7 +10,7 @@ use Rattle.registry.specs.declared.Row.{Row}
 use Rattle.read_fingerprints.specs.Fingerprints.{print_faults}
 use Rattle.read_message.specs.Reading.{value_faults, reading_of}
 use Rattle.read_message.specs.Whole.{attributes}
-use Rattle.read_message.specs.WholeLaws.{Parts, parts, parts_told, told_whole}
+use Rattle.read_message.proofs.WholeLaws.{Parts, parts, parts_told, told_whole}
 use Rattle.read_message.specs.declared.Answer.TheVariants.{Whole}
 use Rattle.round_trip.specs.Message.{Message, bytes_of, message_of, Shaped, Writable, Sound, write, Right, whole_with}
 use Rattle.round_trip.specs.Bijection.{bijection, read_written, header_again, covered_again}

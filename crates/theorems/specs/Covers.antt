@@ -14,7 +14,7 @@ use Rattle.attribute.proofs.CoverLaws.{sizes_rest, sizes_least, visits, visits_o
 use Rattle.registry.specs.declared.Row.{Row}
 use Rattle.read_message.specs.Reading.{reading_of}
 use Rattle.read_message.specs.Whole.{Whole, attributes}
-use Rattle.read_message.specs.WholeLaws.{Parts, parts, told, told_whole}
+use Rattle.read_message.proofs.WholeLaws.{Parts, parts, told, told_whole}
 use Rattle.read_message.specs.declared.Answer.TheVariants as answer
 use Rattle.read_message.specs.declared.Reading.{Reading}
 

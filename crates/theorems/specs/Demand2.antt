@@ -31,7 +31,7 @@ use Rattle.registry.specs.declared.Rule.TheVariants as rule
 use Rattle.registry.specs.declared.Entry.TheVariants.{Listed}
 use Rattle.read_message.specs.Reading.{reading_of}
 use Rattle.read_message.specs.Whole.{Whole}
-use Rattle.read_message.specs.WholeLaws.{told}
+use Rattle.read_message.proofs.WholeLaws.{told}
 use Rattle.read_message.specs.declared.Reading.{Reading}
 use Rattle.read_typed.specs.Typed.{without, said_by, read_of, typed_of, part_by, part_of}
 use Rattle.read_typed.specs.TypedLaws.{fields, part}

@@ -18,11 +18,11 @@ use Rattle.attribute.specs.Attribute.{Attr}
 use Rattle.fingerprint.specs.Fingerprint.{fingerprint_at}
 use Rattle.registry.specs.Rows.{rfc5389}
 use Rattle.read_message.specs.Reading.{reading_of}
-use Rattle.read_message.specs.WholeLaws.{told_whole}
+use Rattle.read_message.proofs.WholeLaws.{told_whole}
 use Rattle.read_message.specs.declared.Answer.TheVariants.{Whole}
 use Rattle.write_begin.specs.declared.Written.TheVariants.{Total}
 use Rattle.write_plan.specs.Plan.{size_of}
-use Rattle.write_plan.specs.PlanLaws as plan
+use Rattle.write_plan.proofs.PlanLaws as plan
 use Rattle.write_raw.specs.Append.{answer, appended}
 use Rattle.write_raw.specs.AppendLaws.{total_goes}
 use Rattle.write_close.specs.Seal.{fingerprint}

@@ -9,7 +9,7 @@ use Rattle.registry.specs.Rows.{look, rfc5389}
 use Rattle.registry.specs.Fault.{rule_fault, entry_fault, fault}
 use Rattle.registry.specs.declared.Row.{Row}
 use Rattle.read_first.specs.First.{starts, first}
-use Rattle.read_first.specs.WholeLaws.{served}
+use Rattle.read_first.proofs.WholeLaws.{served}
 use Rattle.read_typed.specs.Typed.{typed_said, typed_of}
 use Rattle.read_typed.specs.TypedLaws.{typed_number}
 

@@ -13,8 +13,8 @@ use Rattle.read_message.specs.declared.Answer.TheVariants.{Whole}
 use Rattle.read_first.specs.First.{none, starts, first_from, first_in, whole_by, is_whole, is_there}
 use Rattle.write_begin.specs.declared.Written.TheVariants.{Total}
 use Rattle.write_plan.specs.Plan.{size_of}
-use Rattle.write_plan.specs.PlanLaws.{message}
-use Rattle.write_plan.specs.PlanLaws as plan
+use Rattle.write_plan.proofs.PlanLaws.{message}
+use Rattle.write_plan.proofs.PlanLaws as plan
 use Rattle.write_raw.specs.Append.{answer, appended}
 use Rattle.write_raw.specs.AppendLaws.{total_goes}
 use Rattle.read_integrity.specs.Integrity.{integrity_fault}

@@ -40,7 +40,7 @@ use Rattle.registry.specs.declared.Entry.{Entry}
 use Rattle.registry.specs.declared.Entry.TheVariants.{Listed, Unknown}
 use Rattle.read_fingerprints.specs.Fingerprints.{print_fault, print_faults}
 use Rattle.read_message.specs.Reading.{value_faults, and_then, outcome, answered, answer_said, reading_said, reading_of}
-use Rattle.read_message.specs.WholeLaws.{number_by, judged_answer, refused_answer}
+use Rattle.read_message.proofs.WholeLaws.{number_by, judged_answer, refused_answer}
 use Rattle.read_message.specs.declared.Answer.TheVariants.{Refused}
 use Rattle.read_message.specs.declared.Reading.{Reading}
 

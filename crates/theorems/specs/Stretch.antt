@@ -21,7 +21,7 @@ use Rattle.registry.specs.declared.Row.{Row}
 use Rattle.attribute.specs.Scan.{Pass}
 use Rattle.read_fingerprints.specs.Fingerprints.{print_fault, print_faults}
 use Rattle.read_message.specs.Whole.{Whole, attributes}
-use Rattle.read_message.specs.WholeLaws.{parts}
+use Rattle.read_message.proofs.WholeLaws.{parts}
 use Rattle.round_trip.specs.FrontLaws.{all_append}
 use Rattle.theorems.specs.Ends.{Ends}
 

@@ -10,7 +10,7 @@ use Rattle.hmac.specs.Hmac.{hmac_of}
 use Rattle.hmac.specs.HmacLaws.{length-hmac}
 use Rattle.write_begin.specs.declared.Written.{Written}
 use Rattle.write_plan.specs.Plan.{size_of}
-use Rattle.write_plan.specs.PlanLaws.{Going}
+use Rattle.write_plan.proofs.PlanLaws.{Going}
 use Rattle.write_raw.specs.Append.{attr, answer, appended}
 use Rattle.write_raw.specs.AppendLaws.{answer_size, appended_value}
 use Rattle.read_integrity.specs.Integrity.{integrity_at}

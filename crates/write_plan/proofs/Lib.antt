@@ -1,3 +1,4 @@
 mod Fronts
 mod Plans
 mod Determined
+pub mod PlanLaws

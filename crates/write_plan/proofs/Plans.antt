@@ -7,7 +7,7 @@ use lib.ListN.{length}
 use Rattle.big_endian.specs.Numbers.{be16}
 use Rattle.attribute.specs.Attribute.{padded}
 use Rattle.write_plan.specs.Plan.{message_fault, body_with, plan_of}
-use Rattle.write_plan.specs.PlanLaws.{no_message, wrong, padding, long, small, goes, plan_is}
+use Rattle.write_plan.proofs.PlanLaws.{no_message, wrong, padding, long, small, goes, plan_is}
 use Rattle.write_plan.specs.declared.Plan.TheVariants.{Go, No}
 
 module _ (d : List ℕ) (f n m : ℕ) {x : ℕ} (e : x ≡ message_fault d) where

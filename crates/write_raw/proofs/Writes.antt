@@ -12,7 +12,7 @@ use Rattle.buffers.specs.PutLaws.{put_laid, put_behind}
 use Rattle.attribute.specs.Attribute.{bytes_of}
 use Rattle.write_begin.specs.declared.Written.TheVariants.{Total, Refused}
 use Rattle.write_plan.specs.Plan.{plan_of}
-use Rattle.write_plan.specs.PlanLaws.{Going, going}
+use Rattle.write_plan.proofs.PlanLaws.{Going, going}
 use Rattle.write_plan.specs.declared.Plan.{Plan}
 use Rattle.write_plan.specs.declared.Plan.TheVariants.{Go, No}
 use Rattle.write_raw.specs.Append.{attr, answered, written, plan_for, answer, appended}

@@ -9,7 +9,7 @@ use Rattle.big_endian.specs.Numbers.{two}
 use Rattle.attribute.specs.Attribute.{Attr, bytes_of}
 use Rattle.write_begin.specs.declared.Written.TheVariants.{Total, Refused}
 use Rattle.write_plan.specs.Plan.{message_fault, plan_of}
-use Rattle.write_plan.specs.PlanLaws.{no_message, wrong, plan_is, Going, going}
+use Rattle.write_plan.proofs.PlanLaws.{no_message, wrong, plan_is, Going, going}
 use Rattle.write_plan.specs.declared.Plan.{Plan}
 use Rattle.write_plan.specs.declared.Plan.TheVariants.{Go, No}
 use Rattle.write_raw.specs.Append.{attr, answered, written, plan_for, answer, appended}

@@ -1,7 +1,7 @@
 use native.Mathlib.Omega.{arith}
 use Rattle.registry.specs.Rows.{rfc5389}
 use Rattle.read_first.specs.SaidLaws.{first_one}
-use Rattle.read_first.specs.FirstLaws.{room, nothing, nothing_at, value, value_at_lem}
+use Rattle.read_first.proofs.FirstLaws.{room, nothing, nothing_at, value, value_at_lem}
 use borrow.Author.Rules.{rules}
 use Rattle.read_first.proofs.first_value.Goals as goal
 

@@ -1,7 +1,7 @@
 use native.Mathlib.Omega.{arith}
 use Rattle.registry.specs.Rows.{rfc5389}
 use Rattle.read_first.specs.SaidLaws.{first_one}
-use Rattle.read_first.specs.FirstLaws.{room}
+use Rattle.read_first.proofs.FirstLaws.{room}
 use Rattle.read_realm.proofs.Choosing.{configured, configured_at, own, own_at}
 use borrow.Author.Rules.{rules}
 use Rattle.read_realm.proofs.chosen.Goals as goal

@@ -9,12 +9,12 @@ use Rattle.registry.specs.Fault.{fault}
 use Rattle.registry.specs.declared.Row.{Row}
 use Rattle.read_message.specs.Reading.{answer_said, reading_said, value_faults, reading_of}
 use Rattle.read_message.specs.Whole.{Whole, attributes}
-use Rattle.read_message.specs.WholeLaws.{Parts, parts, told}
+use Rattle.read_message.proofs.WholeLaws.{Parts, parts, told}
 use Rattle.read_message.specs.declared.Answer.{Answer}
 use Rattle.read_message.specs.declared.Answer.TheVariants as answer
 use Rattle.read_message.specs.declared.Reading.{Reading}
 use Rattle.read_first.specs.First.{starts, first_from, first_in, whole_by, is_whole, first}
-use Rattle.read_first.specs.FirstLaws.{Heads, head, later, heads, nowhere, only_whole}
+use Rattle.read_first.proofs.FirstLaws.{Heads, head, later, heads, nowhere, only_whole}
 
 no : false ≡ true → ⊥
 no e = let z : ◌≡◌ {A = ℕ} 0 1 = cc in omega arith
