@@ -8,17 +8,11 @@ use Rattle.attribute.specs.Visits.{found}
 use Rattle.attribute.specs.WalkLaws.{ended, Ahead, ahead, Stops, seen}
 use Rattle.attribute.proofs.BodyLaws.{unroll, body_seen, stopped}
 use Rattle.attribute.specs.Scan.{scan, scanned}
+use Rattle.attribute.specs.Scanning.{Scanning}
 use Rattle.attribute.specs.declared.Walk.{Walk}
 use Rattle.attribute.specs.declared.Walk.TheVariants.{Attribute}
 use Rattle.attribute.specs.declared.Scan.{Scan}
 use Rattle.attribute.specs.declared.Scan.TheVariants.{Passed, Fault}
-
--- behind n attributes, at a place from where judging comes to t
-pub record Scanning (f : ℕ → Attr → ℕ) (d : List ℕ) (at n : ℕ) (t : Scan) : Type 0 where
-  pub low : 20 ≤ at
-  pub inside : at ≤ length d
-  pub few : n ≤ at
-  pub same : scan f n at (parse 0 (drop at d)) ≡ t
 
 pub start : (f : ℕ → Attr → ℕ) (d : List ℕ) → 20 ≤ length d → Scanning f d 20 0 (scanned f d)
 unfolding scanned

@@ -4,5 +4,6 @@ pub mod Visits
 pub mod WalkLaws
 pub mod Good
 pub mod Scan
+pub mod Scanning
 pub mod PassLaws
 pub mod SaidLaws

@@ -1,13 +1,8 @@
 -- The burst law over places.
-use Rattle.std.specs.Prelude.{◌≡◌, refl, ◌⊎◌, List, ◌++◌, ℕ, ◌+◌, ◌-◌, ◌^◌, ◌≤◌, ◌<◌, min, length, get_or, take, drop}
-use Rattle.std.proofs.Common.{sym, ap, ap₂, ◌∙◌, inl, inr, append_assoc, arith, length-take, length-drop, take-append-drop, ext_get_or, get_or-take, get_or-drop}
-use Rattle.std.specs.Int.Bits.{bit_xor, xor_zero_r, xor_self}
-use Rattle.std.proofs.lemmas.Nat.{xor_lt}
+use Rattle.std.specs.Prelude.{◌≡◌, ◌⊎◌, List, ◌++◌, ℕ, ◌+◌, ◌≤◌, ◌<◌, length, get_or, take, drop}
+use Rattle.std.proofs.Common.{sym, ap, ap₂, ◌∙◌, arith, length-take, length-drop}
 use Rattle.base.specs.Bytes.{Bytes}
-use Rattle.base.specs.XorLaws.{xor_cancel, xor_eq}
-use Rattle.crc.specs.Crc.{bytes_from, crc32_of}
-use Rattle.crc.specs.Octets.{octets, word}
-use Rattle.crc.proofs.CrcLaws.{octets_lt, octets_nought, bytes_from-append, difference, word_lt, word_same}
+use Rattle.crc.specs.Crc.{crc32_of}
 use Rattle.crc.proofs.BurstLaws.{burst}
 use Rattle.crc.proofs.WindowLaws.{parts, fronts, backs}
 

@@ -1,13 +1,6 @@
 -- A window of four places in two lists that differ only there.
-use Rattle.std.specs.Prelude.{◌≡◌, refl, ◌⊎◌, List, ◌++◌, ℕ, ◌+◌, ◌-◌, ◌^◌, ◌≤◌, ◌<◌, min, length, get_or, take, drop}
-use Rattle.std.proofs.Common.{sym, ap, ap₂, ◌∙◌, inl, inr, append_assoc, arith, length-take, length-drop, take-append-drop, ext_get_or, get_or-take, get_or-drop}
-use Rattle.std.specs.Int.Bits.{bit_xor, xor_zero_r, xor_self}
-use Rattle.std.proofs.lemmas.Nat.{xor_lt}
-use Rattle.base.specs.Bytes.{Bytes}
-use Rattle.base.specs.XorLaws.{xor_cancel, xor_eq}
-use Rattle.crc.specs.Crc.{bytes_from, crc32_of}
-use Rattle.crc.specs.Octets.{octets, word}
-use Rattle.crc.proofs.CrcLaws.{octets_lt, octets_nought, bytes_from-append, difference, word_lt, word_same}
+use Rattle.std.specs.Prelude.{◌≡◌, ◌⊎◌, List, ◌++◌, ℕ, ◌+◌, ◌-◌, ◌≤◌, ◌<◌, min, length, get_or, take, drop}
+use Rattle.std.proofs.Common.{sym, ap, ◌∙◌, inl, inr, append_assoc, arith, length-take, length-drop, take-append-drop, ext_get_or, get_or-take, get_or-drop}
 
 -- a list in three parts: before the window, the window, behind it
 pub parts : (s : List ℕ) (k : ℕ) → take k s ++ take 4 (drop k s) ++ drop 4 (drop k s) ≡ s

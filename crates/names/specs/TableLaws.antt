@@ -1,5 +1,5 @@
 -- A table as one text: of each row its number in two bytes, the size of its name in one, and the name; and the name that is found there.
-use Rattle.std.specs.Prelude.{ℕ, zero, suc, ◌+◌, ◌*◌, ◌/◌, ◌%◌, ◌-◌, ◌≤◌, List, [], ◌∷◌, ◌++◌, ◌≡◌, refl, length, take, drop, ltb, eqb}
+use Rattle.std.specs.Prelude.{ℕ, zero, suc, ◌+◌, ◌*◌, ◌/◌, ◌%◌, ◌≤◌, List, [], ◌∷◌, ◌++◌, ◌≡◌, refl, length, take, drop, ltb, eqb}
 use Rattle.std.proofs.Common.{ap, ◌∙◌, arith, le-ltb, length-append, take_at, drop_at}
 use Rattle.base.specs.Choice.{pick}
 use Rattle.names.specs.Names.{Row, find}

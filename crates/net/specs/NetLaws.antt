@@ -1,5 +1,5 @@
 -- Laws of the XOR form: over any size, and its own inverse.
-use Rattle.std.specs.Prelude.{ℕ, zero, suc, ◌+◌, ◌≤◌, List, [], ◌∷◌, ◌++◌, ◌≡◌, refl, length, take, drop}
+use Rattle.std.specs.Prelude.{ℕ, zero, suc, ◌≤◌, List, [], ◌∷◌, ◌++◌, ◌≡◌, refl, length, take, drop}
 use Rattle.std.proofs.Common.{ap, ap₂, arith}
 use Rattle.std.specs.Int.Bits.{bit_xor}
 use Rattle.base.specs.XorLaws.{xor_twice}

@@ -9,7 +9,8 @@ use Rattle.attribute.specs.Attribute.{parse}
 use Rattle.attribute.specs.Walk.{step_at}
 use Rattle.attribute.specs.Scan.{scan, scanned}
 use Rattle.attribute.specs.Visits.{found}
-use Rattle.attribute.proofs.ScanLaws.{Scanning, inside, on, decides}
+use Rattle.attribute.proofs.ScanLaws.{inside, on, decides}
+use Rattle.attribute.specs.Scanning.{Scanning}
 use Rattle.attribute.specs.declared.Walk.{Walk}
 use Rattle.attribute.specs.declared.Walk.TheVariants.{Attribute}
 use Rattle.attribute.specs.declared.Scan.{Scan}

@@ -3,7 +3,7 @@ use Rattle.std.specs.Prelude.{ℕ, ◌≤◌, ◌<◌, List, ◌≡◌, length}
 use Rattle.std.proofs.Common.{sym, ◌∙◌}
 use borrow.Author.Tests.{le-leb, lt-leb}
 use Rattle.attribute.specs.Scan.{scanned}
-use Rattle.attribute.proofs.ScanLaws.{Scanning}
+use Rattle.attribute.specs.Scanning.{Scanning}
 use Rattle.attribute.specs.declared.Scan.{Scan}
 use Rattle.read_fingerprints.specs.Fingerprints.{print_faults, on_from, prints_from}
 

@@ -5,7 +5,7 @@ ghost use Rattle.std.specs.Prelude.{◌≡◌, ◌+◌, ◌-◌, ◌≤◌, ◌<
 ghost use Rattle.base.specs.Same.{same};
 ghost use Rattle.big_endian.specs.Numbers.{four};
 ghost use Rattle.attribute.specs.Scan.{scan_said};
-ghost use Rattle.attribute.proofs.ScanLaws.{Scanning};
+ghost use Rattle.attribute.specs.Scanning.{Scanning};
 ghost use Rattle.crc.specs.Octets.{word};
 ghost use Rattle.crc_byte_tables.specs.Tables.{Steps};
 ghost use Rattle.fingerprint.specs.Fingerprint.{printed};

@@ -12,7 +12,7 @@ use Rattle.header.specs.HeaderLaws.{GoodHead, good_head, Not, refused, long}
 use Rattle.header.specs.declared.Header.{Header}
 use Rattle.header.specs.declared.Head.TheVariants as head
 use Rattle.attribute.specs.Scan.{scanned}
-use Rattle.attribute.proofs.ScanLaws.{Scanning}
+use Rattle.attribute.specs.Scanning.{Scanning}
 use Rattle.attribute.specs.declared.Scan.{Scan}
 use Rattle.attribute.specs.declared.Scan.TheVariants.{Passed, Fault}
 use Rattle.registry.specs.Rows.{rfc5389}

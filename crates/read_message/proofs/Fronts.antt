@@ -10,7 +10,8 @@ use Rattle.base.specs.Choice.{pick}
 use Rattle.attribute.specs.Walk.{step_at}
 use Rattle.attribute.specs.WalkLaws.{ahead, seen}
 use Rattle.attribute.specs.Visits.{found}
-use Rattle.attribute.proofs.ScanLaws.{Scanning, turn}
+use Rattle.attribute.proofs.ScanLaws.{turn}
+use Rattle.attribute.specs.Scanning.{Scanning}
 use Rattle.attribute.specs.declared.Scan.{Scan}
 use Rattle.attribute.specs.declared.Walk.{Walk}
 use Rattle.attribute.specs.declared.Walk.TheVariants.{Attribute}

@@ -6,7 +6,8 @@ use native.Mathlib.Omega.{arith}
 use lib.ListN.{take, drop}
 use Rattle.attribute.specs.Walk.{step_at}
 use Rattle.attribute.specs.Visits.{found}
-use Rattle.attribute.proofs.ScanLaws.{Scanning, on, decides}
+use Rattle.attribute.proofs.ScanLaws.{on, decides}
+use Rattle.attribute.specs.Scanning.{Scanning}
 use Rattle.attribute.specs.declared.Walk.{Walk}
 use Rattle.attribute.specs.declared.Walk.TheVariants.{Attribute}
 use Rattle.attribute.specs.declared.Scan.{Scan}

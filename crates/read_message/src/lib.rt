@@ -3,7 +3,7 @@
 
 ghost use Rattle.std.specs.Prelude.{◌≡◌, ◌≤◌, ◌<◌, length};
 ghost use Rattle.attribute.specs.Scan.{scanned};
-ghost use Rattle.attribute.proofs.ScanLaws.{Scanning};
+ghost use Rattle.attribute.specs.Scanning.{Scanning};
 ghost use Rattle.registry.specs.Rows.{rfc5389};
 ghost use Rattle.read_fingerprints.specs.Fingerprints.{print_faults};
 ghost use Rattle.read_message.specs.Front.{past_of};

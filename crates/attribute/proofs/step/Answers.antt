@@ -3,7 +3,6 @@ use native.Mathlib.Omega.{arith}
 use Rattle.attribute.specs.Walk.{walk_said}
 use Rattle.attribute.specs.WalkLaws.{beyond, ended, short, at_step}
 use Rattle.attribute.proofs.Steps.{long_step, attr_step}
-use borrow.Author.Rules.{rules}
 use Rattle.attribute.proofs.step.Goals as goal
 
 pub returns-then-d-at : goal.returns-then-d-at

@@ -3,7 +3,6 @@ use Rattle.header.specs.SaidLaws.{header_one}
 use Rattle.attribute.specs.Walk.{walk_said}
 use Rattle.attribute.specs.SaidLaws.{walk_one}
 use Rattle.attribute.proofs.Steps.{walk_refused, walk_header, walk_step}
-use borrow.Author.Rules.{rules}
 use Rattle.attribute.proofs.walk_at.Goals as goal
 
 pub returns-then-at-lt20 : goal.returns-then-at-lt20

@@ -1,5 +1,3 @@
-use Prim.Native.Nat.{◌+◌}
-use native.Mathlib.Omega.{arith}
 use Rattle.big_endian.specs.Numbers.{be16}
 use Rattle.big_endian.proofs.Cases.{none, one}
 use borrow.Author.Rules.{rules}

@@ -1,7 +1,4 @@
-use Prim.Native.Nat.{◌-◌}
-use lib.ListN.{length}
-use Rattle.base.specs.LaidLaws.{Laying, laying_start, laying_turn, laying_done}
-use borrow.Author.Rules.{rules}
+use Rattle.base.specs.LaidLaws.{laying_start, laying_turn, laying_done}
 use Rattle.buffers.proofs.lay.Goals as goal
 
 pub loop-j-init : goal.loop-j-init

@@ -1,7 +1,6 @@
 use Prim.Native.Nat.{◌-◌}
 use lib.ListN.{length}
-use Rattle.base.specs.LaidLaws.{Laying, laying_start, laying_turn, laying_done}
-use borrow.Author.Rules.{rules}
+use Rattle.base.specs.LaidLaws.{Laying}
 use Rattle.buffers.proofs.lay.Given as goal
 
 abbrev pub invariant-loop-j : goal.invariant-loop-j

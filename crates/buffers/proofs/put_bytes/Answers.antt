@@ -1,5 +1,4 @@
 use Rattle.buffers.proofs.Cases.{put_room, yes_fits, yes_put, no_fits, no_put}
-use borrow.Author.Rules.{rules}
 use Rattle.buffers.proofs.put_bytes.Goals as goal
 
 pub lay-requires : goal.lay-requires

@@ -1,5 +1,4 @@
 use Rattle.c_names.proofs.Sayings.{no_class, class}
-use borrow.Author.Rules.{rules}
 use Rattle.c_names.proofs.cratehoist_class_name.Goals as goal
 
 pub returns-then-message_class-gt3 : goal.returns-then-message_class-gt3

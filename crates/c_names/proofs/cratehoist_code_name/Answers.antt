@@ -1,6 +1,5 @@
 use Rattle.base.specs.ThroughLaws.{through}
 use Rattle.c_names.specs.Name.{told}
-use borrow.Author.Rules.{rules}
 use Rattle.c_names.proofs.cratehoist_code_name.Goals as goal
 
 pub returns : goal.returns

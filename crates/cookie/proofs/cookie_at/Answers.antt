@@ -1,8 +1,6 @@
-use Prim.Native.Nat.{◌-◌}
 use mathlib.Core.Path.{refl}
 use native.Mathlib.Omega.{arith}
-use Rattle.cookie.proofs.Cookies.{Comparing, start, turn, differs, done, short}
-use borrow.Author.Rules.{rules}
+use Rattle.cookie.proofs.Cookies.{start, turn, differs, done, short}
 use Rattle.cookie.proofs.cookie_at.Goals as goal
 
 pub returns-then-d-at : goal.returns-then-d-at

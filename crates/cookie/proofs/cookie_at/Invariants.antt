@@ -1,8 +1,5 @@
 use Prim.Native.Nat.{◌-◌}
-use mathlib.Core.Path.{refl}
-use native.Mathlib.Omega.{arith}
-use Rattle.cookie.proofs.Cookies.{Comparing, start, turn, differs, done, short}
-use borrow.Author.Rules.{rules}
+use Rattle.cookie.proofs.Cookies.{Comparing}
 use Rattle.cookie.proofs.cookie_at.Given as goal
 
 abbrev pub invariant-loop-i : goal.invariant-loop-i

@@ -1,5 +1,4 @@
 use Rattle.crc.proofs.Multiplied.{step_is}
-use borrow.Author.Rules.{rules}
 use Rattle.crc.proofs.bit_step.Goals as goal
 
 pub returns : goal.returns

@@ -1,5 +1,4 @@
 use Rattle.crc.proofs.Multiplied.{one_taken}
-use borrow.Author.Rules.{rules}
 use Rattle.crc.proofs.digit.Goals as goal
 
 pub returns : goal.returns

@@ -1,5 +1,4 @@
-use Rattle.crc.proofs.Multiplied.{Left, left_start, left_turn, left_nought, left_done}
-use borrow.Author.Rules.{rules}
+use Rattle.crc.proofs.Multiplied.{left_start, left_turn, left_nought, left_done}
 use Rattle.crc.proofs.digits.Goals as goal
 
 pub loop-k-init : goal.loop-k-init

@@ -1,5 +1,4 @@
-use Rattle.crc.proofs.Multiplied.{Left, left_start, left_turn, left_nought, left_done}
-use borrow.Author.Rules.{rules}
+use Rattle.crc.proofs.Multiplied.{Left}
 use Rattle.crc.proofs.digits.Given as goal
 
 abbrev pub invariant-loop-k : goal.invariant-loop-k

@@ -1,5 +1,4 @@
 use Rattle.crc.proofs.Multiplied.{then_taken}
-use borrow.Author.Rules.{rules}
 use Rattle.crc.proofs.five_digits.Goals as goal
 
 pub returns : goal.returns

@@ -1,5 +1,4 @@
 use Rattle.crc.proofs.Multiplied.{fifth, all_taken}
-use borrow.Author.Rules.{rules}
 use Rattle.crc.proofs.product.Goals as goal
 
 pub returns-then-t-eq134217728 : goal.returns-then-t-eq134217728

@@ -1,5 +1,4 @@
 use Rattle.crc32.proofs.Sums.{whole}
-use borrow.Author.Rules.{rules}
 use Rattle.crc32.proofs.crc32.Goals as goal
 
 pub returns : goal.returns

@@ -1,6 +1,4 @@
-use Prim.Native.Nat.{◌-◌}
-use Rattle.crc_byte_tables.proofs.Making.{Making, first_start, first_turn, first_done}
-use borrow.Author.Rules.{rules}
+use Rattle.crc_byte_tables.proofs.Making.{first_start, first_turn, first_done}
 use Rattle.crc_byte_tables.proofs.first_row.Goals as goal
 
 pub loop-i-init : goal.loop-i-init

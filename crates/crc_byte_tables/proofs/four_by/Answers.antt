@@ -1,5 +1,4 @@
 use Rattle.crc_byte_tables.proofs.Making.{few, many}
-use borrow.Author.Rules.{rules}
 use Rattle.crc_byte_tables.proofs.four_by.Goals as goal
 
 pub returns-then-t-lt2048 : goal.returns-then-t-lt2048

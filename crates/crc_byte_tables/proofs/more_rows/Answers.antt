@@ -1,5 +1,4 @@
-use Prim.Native.Nat.{◌-◌, ◌≤◌}
-use Rattle.crc_byte_tables.proofs.Making.{Making, more_start, more_turn, more_done}
+use Rattle.crc_byte_tables.proofs.Making.{more_start, more_turn, more_done}
 use borrow.Author.Rules.{rules}
 use Rattle.crc_byte_tables.proofs.more_rows.Goals as goal
 

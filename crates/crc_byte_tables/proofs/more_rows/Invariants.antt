@@ -1,6 +1,5 @@
 use Prim.Native.Nat.{◌-◌, ◌≤◌}
-use Rattle.crc_byte_tables.proofs.Making.{Making, more_start, more_turn, more_done}
-use borrow.Author.Rules.{rules}
+use Rattle.crc_byte_tables.proofs.Making.{Making}
 use Rattle.crc_byte_tables.proofs.more_rows.Given as goal
 
 abbrev pub invariant-loop-i : goal.invariant-loop-i

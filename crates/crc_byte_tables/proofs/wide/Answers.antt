@@ -1,5 +1,4 @@
 use Rattle.crc_byte_tables.proofs.Making.{bytes_are}
-use borrow.Author.Rules.{rules}
 use Rattle.crc_byte_tables.proofs.wide.Goals as goal
 
 pub returns : goal.returns

@@ -1,5 +1,4 @@
-use Rattle.crc_folds.proofs.Front.{wide, begun_none, begun_four, begun_half}
-use borrow.Author.Rules.{rules}
+use Rattle.crc_folds.proofs.Front.{begun_none, begun_four, begun_half}
 use Rattle.crc_folds.proofs.begun.Goals as goal
 
 pub returns-then-i-lt4 : goal.returns-then-i-lt4

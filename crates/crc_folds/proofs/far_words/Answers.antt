@@ -1,10 +1,5 @@
 -- As many words as can be folded far, and then the others.
-use Prim.Native.Nat.{◌-◌}
-use lib.ListN.{length, drop}
-use Rattle.crc.specs.Crc.{bytes_from}
-use Rattle.crc_folds.specs.Waits.{register, Waits}
 use Rattle.crc_folds.proofs.Waits.{waits_start, far_turn, waits_rest}
-use borrow.Author.Rules.{rules}
 use Rattle.crc_folds.proofs.far_words.Goals as goal
 
 pub loop-i-init : goal.loop-i-init

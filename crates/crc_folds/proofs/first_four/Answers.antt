@@ -1,6 +1,5 @@
 use native.Mathlib.Omega.{arith}
 use Rattle.crc_folds.proofs.Walk.{four_lt}
-use borrow.Author.Rules.{rules}
 use Rattle.crc_folds.proofs.first_four.Goals as goal
 
 pub overflow_cast-result : goal.overflow_cast-result

@@ -2,8 +2,6 @@ use Prim.Native.Nat.{◌-◌}
 use lib.ListN.{length, drop}
 use Rattle.crc.specs.Crc.{bytes_from}
 use Rattle.crc_folds.specs.Waits.{register, Waits}
-use Rattle.crc_folds.proofs.Waits.{waits_start, settled_turn, waits_small, waits_done}
-use borrow.Author.Rules.{rules}
 use Rattle.crc_folds.proofs.last_words.Given as goal
 
 abbrev pub invariant-loop-i : goal.invariant-loop-i

@@ -1,10 +1,5 @@
 -- As many words as can be folded, and then the last.
-use Prim.Native.Nat.{◌-◌}
-use lib.ListN.{length, drop}
-use Rattle.crc.specs.Crc.{bytes_from}
-use Rattle.crc_folds.specs.Waits.{register, Waits}
 use Rattle.crc_folds.proofs.Waits.{waits_start, near_turn, waits_rest}
-use borrow.Author.Rules.{rules}
 use Rattle.crc_folds.proofs.near_words.Goals as goal
 
 pub loop-i-init : goal.loop-i-init

@@ -1,5 +1,4 @@
 use Rattle.crc_folds.proofs.Walk.{next_length, next_is}
-use borrow.Author.Rules.{rules}
 use Rattle.crc_folds.proofs.word_at.Goals as goal
 
 pub word_of-requires : goal.word_of-requires

@@ -1,7 +1,6 @@
 -- A word of bytes, the last first.
-use Prim.Native.Nat.{◌-◌}
 use native.Mathlib.Omega.{arith}
-use Rattle.crc_folds.proofs.Walk.{Read, read_start, read_small, read_turn, read_done}
+use Rattle.crc_folds.proofs.Walk.{read_start, read_small, read_turn, read_done}
 use borrow.Author.Rules.{rules}
 use Rattle.crc_folds.proofs.word_of.Goals as goal
 

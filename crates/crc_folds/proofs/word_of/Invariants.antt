@@ -1,7 +1,4 @@
-use Prim.Native.Nat.{◌-◌}
-use native.Mathlib.Omega.{arith}
-use Rattle.crc_folds.proofs.Walk.{Read, read_start, read_small, read_turn, read_done}
-use borrow.Author.Rules.{rules}
+use Rattle.crc_folds.proofs.Walk.{Read}
 use Rattle.crc_folds.proofs.word_of.Given as goal
 
 abbrev pub invariant-loop-k : goal.invariant-loop-k

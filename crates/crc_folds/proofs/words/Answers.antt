@@ -1,5 +1,4 @@
 use Rattle.crc_folds.proofs.Waits.{waits_rest}
-use borrow.Author.Rules.{rules}
 use Rattle.crc_folds.proofs.words.Goals as goal
 
 pub returns : goal.returns

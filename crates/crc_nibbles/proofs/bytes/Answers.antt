@@ -1,8 +1,4 @@
-use Prim.Native.Nat.{◌-◌}
-use native.Mathlib.Omega.{arith}
-use lib.ListN.{length}
-use Rattle.crc_nibbles.proofs.Halves.{Byted, bytes_none, byted_start, byted_turn, byted_done}
-use borrow.Author.Rules.{rules}
+use Rattle.crc_nibbles.proofs.Halves.{bytes_none, byted_start, byted_turn, byted_done}
 use Rattle.crc_nibbles.proofs.bytes.Goals as goal
 
 pub returns-then-t-lt32 : goal.returns-then-t-lt32

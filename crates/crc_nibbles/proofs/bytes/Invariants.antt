@@ -1,8 +1,6 @@
 use Prim.Native.Nat.{◌-◌}
-use native.Mathlib.Omega.{arith}
 use lib.ListN.{length}
-use Rattle.crc_nibbles.proofs.Halves.{Byted, bytes_none, byted_start, byted_turn, byted_done}
-use borrow.Author.Rules.{rules}
+use Rattle.crc_nibbles.proofs.Halves.{Byted}
 use Rattle.crc_nibbles.proofs.bytes.Given as goal
 
 abbrev pub invariant-loop-i : goal.invariant-loop-i

@@ -1,6 +1,5 @@
 -- Each byte by the rows of its place.
 use Rattle.crc_nibbles.proofs.Halves.{four_none, four_are}
-use borrow.Author.Rules.{rules}
 use Rattle.crc_nibbles.proofs.four.Goals as goal
 
 pub returns-then-t-lt128 : goal.returns-then-t-lt128

@@ -1,6 +1,5 @@
 -- Both halves of a byte stand in the rows of its place.
 use Rattle.crc_nibbles.proofs.Halves.{halves_are}
-use borrow.Author.Rules.{rules}
 use Rattle.crc_nibbles.proofs.look.Goals as goal
 
 pub returns : goal.returns

@@ -1,5 +1,4 @@
 use Rattle.digits.specs.DigitLaws.{none_1, figure, none_2, upper, none_3, lower, none_4}
-use borrow.Author.Rules.{rules}
 use Rattle.digits.proofs.digit.Goals as goal
 
 pub returns-then-b-lt48 : goal.returns-then-b-lt48

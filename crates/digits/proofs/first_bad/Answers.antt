@@ -1,7 +1,4 @@
-use Prim.Native.Nat.{◌-◌}
-use lib.ListN.{length}
-use Rattle.digits.proofs.Places.{Passed, start, turn, stop, done}
-use borrow.Author.Rules.{rules}
+use Rattle.digits.proofs.Places.{start, turn, stop, done}
 use Rattle.digits.proofs.first_bad.Goals as goal
 
 pub loop-i-init : goal.loop-i-init

@@ -1,7 +1,6 @@
 use Prim.Native.Nat.{◌-◌}
 use lib.ListN.{length}
-use Rattle.digits.proofs.Places.{Passed, start, turn, stop, done}
-use borrow.Author.Rules.{rules}
+use Rattle.digits.proofs.Places.{Passed}
 use Rattle.digits.proofs.first_bad.Given as goal
 
 abbrev pub invariant-loop-i : goal.invariant-loop-i

@@ -1,7 +1,6 @@
 use mathlib.Core.Path.{ap}
 use Rattle.digits.specs.Number.{number_said}
 use Rattle.digits.proofs.Values.{empty, short, no_nought, no_mark, marked}
-use borrow.Author.Rules.{rules}
 use Rattle.digits.proofs.number_of.Goals as goal
 
 pub returns-then-s-eq0 : goal.returns-then-s-eq0

@@ -1,8 +1,4 @@
-use native.Mathlib.Omega.{arith}
-use Prim.Native.Nat.{◌-◌}
-use lib.ListN.{length}
-use Rattle.digits.proofs.Values.{Valuing, start, turn, done, no_digit, too_large, product}
-use borrow.Author.Rules.{rules}
+use Rattle.digits.proofs.Values.{start, turn, done, no_digit, too_large}
 use Rattle.digits.proofs.value_in.Goals as goal
 
 pub loop-i-init : goal.loop-i-init

@@ -1,8 +1,6 @@
-use native.Mathlib.Omega.{arith}
 use Prim.Native.Nat.{◌-◌}
 use lib.ListN.{length}
-use Rattle.digits.proofs.Values.{Valuing, start, turn, done, no_digit, too_large, product}
-use borrow.Author.Rules.{rules}
+use Rattle.digits.proofs.Values.{Valuing}
 use Rattle.digits.proofs.value_in.Given as goal
 
 abbrev pub invariant-loop-i : goal.invariant-loop-i

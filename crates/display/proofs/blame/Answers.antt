@@ -1,5 +1,4 @@
 use Rattle.display.proofs.Blaming.{blame_1, blame_2, blame_3, blame_4, blame_behind, blame_else}
-use borrow.Author.Rules.{rules}
 use Rattle.display.proofs.blame.Goals as goal
 
 pub returns-then-all-place : goal.returns-then-all-place

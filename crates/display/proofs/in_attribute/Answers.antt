@@ -1,5 +1,4 @@
 use Rattle.display.proofs.Blaming.{at_10, at_11, at_12, at_13, at_14, at_else}
-use borrow.Author.Rules.{rules}
 use Rattle.display.proofs.in_attribute.Goals as goal
 
 pub returns-in-10 : goal.returns-in-10

@@ -1,7 +1,4 @@
-use Prim.Native.Nat.{◌-◌}
-use lib.ListN.{length}
-use Rattle.display.proofs.Runs.{Seeking, seek, seen, none, some}
-use borrow.Author.Rules.{rules}
+use Rattle.display.proofs.Runs.{seek, seen, none, some}
 use Rattle.display.proofs.longest_zeros.Goals as goal
 
 pub loop-i-init : goal.loop-i-init

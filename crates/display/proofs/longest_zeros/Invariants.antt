@@ -1,7 +1,6 @@
 use Prim.Native.Nat.{◌-◌}
 use lib.ListN.{length}
-use Rattle.display.proofs.Runs.{Seeking, seek, seen, none, some}
-use borrow.Author.Rules.{rules}
+use Rattle.display.proofs.Runs.{Seeking}
 use Rattle.display.proofs.longest_zeros.Given as goal
 
 abbrev pub invariant-loop-i : goal.invariant-loop-i

@@ -1,5 +1,4 @@
 use Rattle.display.proofs.Blaming.{behind, cut, whole}
-use borrow.Author.Rules.{rules}
 use Rattle.display.proofs.part.Goals as goal
 
 pub returns-then-all-at : goal.returns-then-all-at

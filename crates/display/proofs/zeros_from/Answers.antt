@@ -1,7 +1,4 @@
-use Prim.Native.Nat.{◌-◌}
-use lib.ListN.{length}
-use Rattle.display.proofs.Runs.{Counting, start, turn, stop, done}
-use borrow.Author.Rules.{rules}
+use Rattle.display.proofs.Runs.{start, turn, stop, done}
 use Rattle.display.proofs.zeros_from.Goals as goal
 
 pub loop-i-init : goal.loop-i-init

@@ -1,7 +1,6 @@
 use Prim.Native.Nat.{◌-◌}
 use lib.ListN.{length}
-use Rattle.display.proofs.Runs.{Counting, start, turn, stop, done}
-use borrow.Author.Rules.{rules}
+use Rattle.display.proofs.Runs.{Counting}
 use Rattle.display.proofs.zeros_from.Given as goal
 
 abbrev pub invariant-loop-i : goal.invariant-loop-i

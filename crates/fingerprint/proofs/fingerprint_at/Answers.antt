@@ -1,5 +1,4 @@
 use Rattle.fingerprint.proofs.Sums.{in_header, behind, too_far, there}
-use borrow.Author.Rules.{rules}
 use Rattle.fingerprint.proofs.fingerprint_at.Goals as goal
 
 pub returns-then-p-lt20 : goal.returns-then-p-lt20

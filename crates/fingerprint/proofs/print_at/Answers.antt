@@ -1,6 +1,5 @@
 use native.Mathlib.Omega.{arith}
 use Rattle.fingerprint.proofs.Sums.{summed, as_it_stands}
-use borrow.Author.Rules.{rules}
 use Rattle.fingerprint.proofs.print_at.Goals as goal
 
 pub returns-then-u16_at-n : goal.returns-then-u16_at-n

@@ -1,4 +1,3 @@
-use borrow.Author.Rules.{rules}
 use Rattle.hash_block.proofs.Filled.{first_block}
 use Rattle.hash_block.proofs.block.Goals as goal
 

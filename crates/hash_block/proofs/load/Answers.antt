@@ -1,7 +1,4 @@
-use borrow.Author.Rules.{rules}
-use Prim.Native.Nat.{◌-◌}
-use lib.ListN.{length}
-use Rattle.hash_block.proofs.Filled.{Filling, filling_start, filling_turn, filling_done}
+use Rattle.hash_block.proofs.Filled.{filling_start, filling_turn, filling_done}
 use Rattle.hash_block.proofs.load.Goals as goal
 
 pub loop-i-init : goal.loop-i-init

@@ -1,7 +1,6 @@
-use borrow.Author.Rules.{rules}
 use Prim.Native.Nat.{◌-◌}
 use lib.ListN.{length}
-use Rattle.hash_block.proofs.Filled.{Filling, filling_start, filling_turn, filling_done}
+use Rattle.hash_block.proofs.Filled.{Filling}
 use Rattle.hash_block.proofs.load.Given as goal
 
 abbrev pub invariant-loop-i : goal.invariant-loop-i

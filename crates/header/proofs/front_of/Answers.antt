@@ -2,7 +2,6 @@ use mathlib.Core.Path.{ap}
 use Rattle.header.specs.Header.{header_said}
 use Rattle.wire.specs.SaidLaws.{from_number_one}
 use Rattle.header.proofs.Fronts.{front_0, front_1, front_2, front_3}
-use borrow.Author.Rules.{rules}
 use Rattle.header.proofs.front_of.Goals as goal
 
 pub returns-then-d-lt20 : goal.returns-then-d-lt20

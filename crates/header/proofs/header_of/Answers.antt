@@ -2,7 +2,6 @@ use mathlib.Core.Path.{ap}
 use Rattle.header.specs.Header.{header_said}
 use Rattle.header.specs.SaidLaws.{header_one}
 use Rattle.header.proofs.Fronts.{header_0, header_front, header_4}
-use borrow.Author.Rules.{rules}
 use Rattle.header.proofs.header_of.Goals as goal
 
 pub returns-then-d-body : goal.returns-then-d-body

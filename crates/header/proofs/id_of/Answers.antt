@@ -1,9 +1,6 @@
-use Prim.Native.Nat.{◌-◌}
 use mathlib.Core.Path.{refl}
-use lib.ListN.{drop}
-use Rattle.base.specs.FillingLaws.{Filling, filling_start, filling_from, filling_done}
+use Rattle.base.specs.FillingLaws.{filling_start, filling_from, filling_done}
 use Rattle.header.specs.Header.{id_of}
-use borrow.Author.Rules.{rules}
 use Rattle.header.proofs.id_of.Goals as goal
 
 pub loop-i-init : goal.loop-i-init

@@ -1,9 +1,6 @@
 use Prim.Native.Nat.{◌-◌}
-use mathlib.Core.Path.{refl}
 use lib.ListN.{drop}
-use Rattle.base.specs.FillingLaws.{Filling, filling_start, filling_from, filling_done}
-use Rattle.header.specs.Header.{id_of}
-use borrow.Author.Rules.{rules}
+use Rattle.base.specs.FillingLaws.{Filling}
 use Rattle.header.proofs.id_of.Given as goal
 
 abbrev pub invariant-loop-i : goal.invariant-loop-i

@@ -1,5 +1,4 @@
 use Rattle.hex_text.proofs.Digits.{glyph_figure, glyph_letter}
-use borrow.Author.Rules.{rules}
 use Rattle.hex_text.proofs.glyph.Goals as goal
 
 pub returns-then-d-lt10 : goal.returns-then-d-lt10

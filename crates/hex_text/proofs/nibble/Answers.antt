@@ -1,6 +1,5 @@
 use Rattle.hex_text.proofs.Digits.{by_bits}
 use native.Mathlib.Omega.{arith}
-use borrow.Author.Rules.{rules}
 use Rattle.hex_text.proofs.nibble.Goals as goal
 
 pub returns : goal.returns

@@ -1,9 +1,5 @@
-use Prim.Native.Nat.{◌-◌, ◌/◌}
-use native.Mathlib.Nat.{min-le_right}
 use native.Mathlib.Omega.{arith}
-use lib.ListN.{length, length-set}
-use Rattle.hex_text.proofs.Laying.{Showing, show_start, show_turn, show_done, show_count}
-use borrow.Author.Rules.{rules}
+use Rattle.hex_text.proofs.Laying.{show_start, show_turn, show_done, show_count}
 use Rattle.hex_text.proofs.show.Goals as goal
 
 pub loop-i-init : goal.loop-i-init

@@ -1,9 +1,5 @@
-use Prim.Native.Nat.{◌-◌, ◌/◌}
-use native.Mathlib.Nat.{min-le_right}
-use native.Mathlib.Omega.{arith}
-use lib.ListN.{length, length-set}
-use Rattle.hex_text.proofs.Laying.{Showing, show_start, show_turn, show_done, show_count}
-use borrow.Author.Rules.{rules}
+use Prim.Native.Nat.{◌-◌}
+use Rattle.hex_text.proofs.Laying.{Showing}
 use Rattle.hex_text.proofs.show.Given as goal
 
 abbrev pub invariant-loop-i : goal.invariant-loop-i

@@ -1,6 +1,4 @@
-use Prim.Native.Nat.{◌-◌}
-use Rattle.hex_text.proofs.Laying.{Spelling, spell_start, spell_turn, spell_done, first_good, second_good}
-use borrow.Author.Rules.{rules}
+use Rattle.hex_text.proofs.Laying.{spell_start, spell_turn, spell_done, first_good, second_good}
 use Rattle.hex_text.proofs.spell.Goals as goal
 
 pub loop-i-init : goal.loop-i-init

@@ -1,7 +1,6 @@
 use mathlib.Core.Path.{ap}
 use Rattle.hex_text.specs.Hex.{hex_said}
 use Rattle.hex_text.proofs.Places.{bad_told, bad_kept, all, odd_told, odd_kept, bytes_told, bytes_read}
-use borrow.Author.Rules.{rules}
 use Rattle.hex_text.proofs.unhex.Goals as goal
 
 pub returns-then-bad-s : goal.returns-then-bad-s

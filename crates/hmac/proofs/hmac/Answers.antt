@@ -1,4 +1,3 @@
-use borrow.Author.Rules.{rules}
 use Rattle.hmac.proofs.Keys.{both}
 use Rattle.hmac.proofs.hmac.Goals as goal
 

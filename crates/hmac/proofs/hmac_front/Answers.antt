@@ -1,4 +1,3 @@
-use borrow.Author.Rules.{rules}
 use Rattle.hmac.proofs.Front.{part, all}
 use Rattle.hmac.proofs.hmac_front.Goals as goal
 

@@ -1,4 +1,3 @@
-use borrow.Author.Rules.{rules}
 use Rattle.hmac.proofs.Front.{short, long}
 use Rattle.hmac.proofs.inner.Goals as goal
 

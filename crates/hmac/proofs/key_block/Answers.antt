@@ -1,4 +1,3 @@
-use borrow.Author.Rules.{rules}
 use Rattle.hmac.proofs.Keys.{short_key, long_key}
 use Rattle.hmac.proofs.key_block.Goals as goal
 

@@ -1,4 +1,3 @@
-use borrow.Author.Rules.{rules}
 use Rattle.hmac.proofs.Keys.{keyed_by}
 use Rattle.hmac.proofs.keyed.Goals as goal
 

@@ -1,4 +1,3 @@
-use borrow.Author.Rules.{rules}
 use Rattle.hmac.proofs.Keys.{behind}
 use Rattle.hmac.proofs.outer.Goals as goal
 

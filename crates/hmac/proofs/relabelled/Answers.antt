@@ -1,4 +1,3 @@
-use borrow.Author.Rules.{rules}
 use Rattle.hmac.proofs.Front.{relabelled}
 use Rattle.hmac.proofs.relabelled.Goals as goal
 

@@ -1,6 +1,4 @@
-use borrow.Author.Rules.{rules}
-use Prim.Native.Nat.{◌-◌}
-use Rattle.hmac.proofs.Keys.{Xoring, xoring_start, xoring_turn, xoring_done}
+use Rattle.hmac.proofs.Keys.{xoring_start, xoring_turn, xoring_done}
 use Rattle.hmac.proofs.xored.Goals as goal
 
 pub loop-i-init : goal.loop-i-init

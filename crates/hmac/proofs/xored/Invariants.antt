@@ -1,6 +1,5 @@
-use borrow.Author.Rules.{rules}
 use Prim.Native.Nat.{◌-◌}
-use Rattle.hmac.proofs.Keys.{Xoring, xoring_start, xoring_turn, xoring_done}
+use Rattle.hmac.proofs.Keys.{Xoring}
 use Rattle.hmac.proofs.xored.Given as goal
 
 abbrev pub invariant-loop-i : goal.invariant-loop-i

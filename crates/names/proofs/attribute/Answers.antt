@@ -1,7 +1,6 @@
 use mathlib.Core.Path.{refl}
 use Rattle.names.specs.Names.{attributes, attribute_name}
 use Rattle.names.proofs.Looking.{by_table}
-use borrow.Author.Rules.{rules}
 use Rattle.names.proofs.attribute.Goals as goal
 
 pub returns : goal.returns

@@ -1,7 +1,6 @@
 use mathlib.Core.Path.{refl}
 use Rattle.names.specs.Names.{codes, code_name}
 use Rattle.names.proofs.Looking.{by_table}
-use borrow.Author.Rules.{rules}
 use Rattle.names.proofs.code.Goals as goal
 
 pub returns : goal.returns

@@ -1,7 +1,4 @@
-use Prim.Native.Nat.{◌-◌}
-use lib.ListN.{length}
-use Rattle.names.proofs.Looking.{Looking, start, ended, cut, hit, turn, less}
-use borrow.Author.Rules.{rules}
+use Rattle.names.proofs.Looking.{start, ended, cut, hit, turn, less}
 use Rattle.names.proofs.look.Goals as goal
 
 pub loop-at-init : goal.loop-at-init

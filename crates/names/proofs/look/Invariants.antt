@@ -1,7 +1,6 @@
 use Prim.Native.Nat.{◌-◌}
 use lib.ListN.{length}
-use Rattle.names.proofs.Looking.{Looking, start, ended, cut, hit, turn, less}
-use borrow.Author.Rules.{rules}
+use Rattle.names.proofs.Looking.{Looking}
 use Rattle.names.proofs.look.Given as goal
 
 abbrev pub invariant-loop-at : goal.invariant-loop-at

@@ -1,7 +1,6 @@
 use mathlib.Core.Path.{refl}
 use Rattle.names.specs.Names.{numbers, number_name}
 use Rattle.names.proofs.Looking.{by_table}
-use borrow.Author.Rules.{rules}
 use Rattle.names.proofs.number.Goals as goal
 
 pub returns : goal.returns

@@ -1,5 +1,4 @@
 use Rattle.names.proofs.Looking.{at_front}
-use borrow.Author.Rules.{rules}
 use Rattle.names.proofs.of.Goals as goal
 
 pub returns : goal.returns

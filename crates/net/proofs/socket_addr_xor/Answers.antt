@@ -1,5 +1,4 @@
 use Rattle.net.proofs.Xoring.{form}
-use borrow.Author.Rules.{rules}
 use Rattle.net.proofs.socket_addr_xor.Goals as goal
 
 pub returns : goal.returns

@@ -1,8 +1,4 @@
-use Prim.Native.Nat.{◌-◌}
-use native.Mathlib.Omega.{arith}
-use lib.ListN.{length}
-use Rattle.net.proofs.Xoring.{Xoring, start, turn, done_mask, done}
-use borrow.Author.Rules.{rules}
+use Rattle.net.proofs.Xoring.{start, turn, done_mask, done}
 use Rattle.net.proofs.xor_bytes.Goals as goal
 
 pub loop-i-init : goal.loop-i-init

@@ -1,8 +1,6 @@
 use Prim.Native.Nat.{◌-◌}
-use native.Mathlib.Omega.{arith}
 use lib.ListN.{length}
-use Rattle.net.proofs.Xoring.{Xoring, start, turn, done_mask, done}
-use borrow.Author.Rules.{rules}
+use Rattle.net.proofs.Xoring.{Xoring}
 use Rattle.net.proofs.xor_bytes.Given as goal
 
 abbrev pub invariant-loop-i : goal.invariant-loop-i

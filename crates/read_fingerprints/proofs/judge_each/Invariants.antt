@@ -1,7 +1,8 @@
 use Prim.Native.Nat.{◌-◌}
 use mathlib.Core.Path.{refl}
 use lib.ListN.{length}
-use Rattle.attribute.proofs.ScanLaws.{Scanning, passed, cut, less}
+use Rattle.attribute.proofs.ScanLaws.{passed, cut, less}
+use Rattle.attribute.specs.Scanning.{Scanning}
 use Rattle.attribute.specs.SaidLaws.{walk_one}
 use Rattle.attribute.proofs.Stops.{stops}
 use Rattle.read_fingerprints.specs.Fingerprints.{print_faults, on_from}

@@ -2,7 +2,8 @@ use Prim.Native.Nat.{◌-◌}
 use native.Mathlib.Omega.{arith}
 use lib.ListN.{length}
 use Rattle.attribute.specs.Scan.{scanned}
-use Rattle.attribute.proofs.ScanLaws.{Scanning, start, passed, cut, within, less}
+use Rattle.attribute.proofs.ScanLaws.{start, passed, cut, within, less}
+use Rattle.attribute.specs.Scanning.{Scanning}
 use Rattle.attribute.specs.SaidLaws.{walk_one}
 use Rattle.attribute.proofs.Stops.{stops}
 use Rattle.registry.specs.Rows.{rfc5389}

@@ -1,4 +1,3 @@
-use Rattle.std.proofs.Common.{rules}
 use Rattle.sha1_digest.proofs.Whole.{hashed}
 use Rattle.sha1_digest.proofs.hash.Goals as goal
 

@@ -1,5 +1,4 @@
 use Rattle.utf8.proofs.Marks.{thirty_two}
-use borrow.Author.Rules.{rules}
 use Rattle.utf8.proofs.ascii_32.Goals as goal
 
 pub returns : goal.returns

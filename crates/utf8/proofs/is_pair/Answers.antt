@@ -1,6 +1,5 @@
 use native.Mathlib.Omega.{arith}
 use Rattle.utf8.proofs.Tails.{too_few, first_wrong, second_last}
-use borrow.Author.Rules.{rules}
 use Rattle.utf8.proofs.is_pair.Goals as goal
 
 pub returns-then-s-at-lt2 : goal.returns-then-s-at-lt2

@@ -1,6 +1,5 @@
 use native.Mathlib.Omega.{arith}
 use Rattle.utf8.proofs.Tails.{too_few, first_wrong, second_wrong, third_last}
-use borrow.Author.Rules.{rules}
 use Rattle.utf8.proofs.is_triple.Goals as goal
 
 pub returns-then-s-at-lt3 : goal.returns-then-s-at-lt3

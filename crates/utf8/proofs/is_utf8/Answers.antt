@@ -1,5 +1,5 @@
 use Rattle.utf8.proofs.Walk.{here, fits, past_char, stop, turned, done}
-use Rattle.utf8.specs.Steps.{On, Past}
+use Rattle.utf8.specs.Steps.{Past}
 use native.Mathlib.Omega.{arith}
 use Rattle.utf8.proofs.is_utf8.Goals.{then-s-i-lt128, else-s-i-lt128+else-n-eq0}
 use Rattle.utf8.proofs.is_utf8.Goals as goal

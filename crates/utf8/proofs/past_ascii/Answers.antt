@@ -1,8 +1,5 @@
 use Rattle.utf8.proofs.Walk.{here, on_later, on_ones, past_one, past_to, past_all}
-use Rattle.utf8.specs.Steps.{On}
-use lib.ListN.{length}
 use native.Mathlib.Omega.{arith}
-use Prim.Native.Nat.{◌-◌, ◌≤◌}
 use borrow.Author.Rules.{rules}
 use Rattle.utf8.proofs.past_ascii.Goals as goal
 

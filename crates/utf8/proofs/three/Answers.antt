@@ -1,5 +1,4 @@
 use native.Mathlib.Omega.{arith}
-use borrow.Author.Rules.{rules}
 use Rattle.utf8.proofs.Tails.{short, wrong_1, wrong_2, right_2}
 use Rattle.utf8.proofs.three.Goals as goal
 

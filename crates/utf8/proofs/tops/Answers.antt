@@ -1,5 +1,4 @@
 use Rattle.utf8.proofs.Marks.{eight}
-use borrow.Author.Rules.{rules}
 use Rattle.utf8.proofs.tops.Goals as goal
 
 pub returns : goal.returns

@@ -1,5 +1,4 @@
 use native.Mathlib.Omega.{arith}
-use borrow.Author.Rules.{rules}
 use Rattle.utf8.proofs.Tails.{short, wrong_1, right_1}
 use Rattle.utf8.proofs.two.Goals as goal
 

@@ -1,7 +1,6 @@
 use native.Mathlib.Omega.{arith}
 use Rattle.utf8_spec.specs.Utf8Laws.{row}
 use Rattle.utf8.proofs.Rows.{row_width, two_rows_width, alone, none_between, none_above}
-use borrow.Author.Rules.{rules}
 use Rattle.utf8.proofs.width_at.Goals as goal
 
 pub returns-then-b-lt128 : goal.returns-then-b-lt128

@@ -2,7 +2,6 @@ use mathlib.Core.Path.{ap}
 use Rattle.wire.specs.SaidLaws.{type_number_one}
 use Rattle.write_begin.specs.Begin.{written_said}
 use Rattle.write_begin.proofs.Begins.{refused_22, kept_22, refused_26, kept_26, total, laid_head}
-use borrow.Author.Rules.{rules}
 use Rattle.write_begin.proofs.begin.Goals as goal
 
 pub returns-then-buf-lt20 : goal.returns-then-buf-lt20

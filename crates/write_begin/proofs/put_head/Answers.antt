@@ -1,5 +1,4 @@
 use Rattle.write_begin.proofs.Begins.{parts}
-use borrow.Author.Rules.{rules}
 use Rattle.write_begin.proofs.put_head.Goals as goal
 
 pub returns : goal.returns

@@ -1,5 +1,4 @@
 use Rattle.display.proofs.Escaping.{control, delete, first, second, neither}
-use borrow.Author.Rules.{rules}
 use Rattle.display.proofs.escape.is_escaped.Goals as goal
 
 pub returns-then-b-lt32 : goal.returns-then-b-lt32

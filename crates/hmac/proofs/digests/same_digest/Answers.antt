@@ -1,7 +1,5 @@
 use native.Mathlib.Omega.{arith}
-use borrow.Author.Rules.{rules}
-use Prim.Native.Nat.{◌-◌}
-use Rattle.hmac.proofs.Comparison.{Comparing, comparing_start, comparing_turn, comparing_done, sizes_differ}
+use Rattle.hmac.proofs.Comparison.{comparing_start, comparing_turn, comparing_done, sizes_differ}
 use Rattle.hmac.proofs.digests.same_digest.Goals as goal
 
 pub returns-then-b-ne20 : goal.returns-then-b-ne20

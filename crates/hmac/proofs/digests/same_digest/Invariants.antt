@@ -1,7 +1,5 @@
-use native.Mathlib.Omega.{arith}
-use borrow.Author.Rules.{rules}
 use Prim.Native.Nat.{◌-◌}
-use Rattle.hmac.proofs.Comparison.{Comparing, comparing_start, comparing_turn, comparing_done, sizes_differ}
+use Rattle.hmac.proofs.Comparison.{Comparing}
 use Rattle.hmac.proofs.digests.same_digest.Given as goal
 
 abbrev pub invariant-loop-i : goal.invariant-loop-i

@@ -1,5 +1,4 @@
-use Rattle.std.proofs.Common.{length, rules}
-use Rattle.sha1_digest.proofs.Taken.{Taking, taking_start, taking_turn, taking_done}
+use Rattle.sha1_digest.proofs.Taken.{taking_start, taking_turn, taking_done}
 use Rattle.sha1_digest.proofs.compression.absorb.Goals as goal
 
 pub loop-t-init : goal.loop-t-init

@@ -1,5 +1,5 @@
-use Rattle.std.proofs.Common.{length, rules}
-use Rattle.sha1_digest.proofs.Taken.{Taking, taking_start, taking_turn, taking_done}
+use Rattle.std.proofs.Common.{length}
+use Rattle.sha1_digest.proofs.Taken.{Taking}
 use Rattle.sha1_digest.proofs.compression.absorb.Given as goal
 
 abbrev pub invariant-loop-t : goal.invariant-loop-t

@@ -1,4 +1,3 @@
-use Rattle.std.proofs.Common.{rules}
 use Rattle.sha1_digest.proofs.Twenties.{compressed}
 use Rattle.sha1_digest.proofs.compression.compress.Goals as goal
 

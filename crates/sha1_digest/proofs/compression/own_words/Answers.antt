@@ -1,5 +1,4 @@
-use Rattle.std.proofs.Common.{◌-◌, rules}
-use Rattle.sha1_digest.proofs.Words.{Loading, loading_start, loading_turn, loading_done}
+use Rattle.sha1_digest.proofs.Words.{loading_start, loading_turn, loading_done}
 use Rattle.sha1_digest.proofs.compression.own_words.Goals as goal
 
 pub loop-t-init : goal.loop-t-init

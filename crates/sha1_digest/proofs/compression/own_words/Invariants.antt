@@ -1,5 +1,5 @@
-use Rattle.std.proofs.Common.{◌-◌, rules}
-use Rattle.sha1_digest.proofs.Words.{Loading, loading_start, loading_turn, loading_done}
+use Rattle.std.proofs.Common.{◌-◌}
+use Rattle.sha1_digest.proofs.Words.{Loading}
 use Rattle.sha1_digest.proofs.compression.own_words.Given as goal
 
 abbrev pub invariant-loop-t : goal.invariant-loop-t

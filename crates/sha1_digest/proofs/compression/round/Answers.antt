@@ -1,5 +1,4 @@
 use Rattle.sha1_digest.proofs.Steps.{rounded}
-use Rattle.std.proofs.Common.{rules}
 use Rattle.sha1_digest.proofs.compression.round.Goals as goal
 
 pub returns : goal.returns

@@ -1,5 +1,5 @@
-use Rattle.std.proofs.Common.{◌-◌, rules}
-use Rattle.sha1_digest.proofs.Twenties.{Turning, turning_start, turn_20, turning_done}
+use Rattle.std.proofs.Common.{◌-◌}
+use Rattle.sha1_digest.proofs.Twenties.{Turning}
 use Rattle.sha1_digest.proofs.compression.rounds_20.Given as goal
 
 abbrev pub invariant-loop-t : goal.invariant-loop-t

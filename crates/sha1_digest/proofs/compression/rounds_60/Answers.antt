@@ -1,5 +1,4 @@
-use Rattle.std.proofs.Common.{◌-◌, rules}
-use Rattle.sha1_digest.proofs.Twenties.{Turning, turning_start, turn_60, turning_done}
+use Rattle.sha1_digest.proofs.Twenties.{turning_start, turn_60, turning_done}
 use Rattle.sha1_digest.proofs.compression.rounds_60.Goals as goal
 
 pub loop-t-init : goal.loop-t-init

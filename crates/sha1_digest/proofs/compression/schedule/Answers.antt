@@ -1,4 +1,3 @@
-use Rattle.std.proofs.Common.{rules}
 use Rattle.sha1_digest.proofs.Words.{whole}
 use Rattle.sha1_digest.proofs.compression.schedule.Goals as goal
 

@@ -1,5 +1,4 @@
-use Rattle.std.proofs.Common.{◌-◌, rules}
-use Rattle.sha1_digest.proofs.Words.{Extending, extending_start, extending_turn, extending_done}
+use Rattle.sha1_digest.proofs.Words.{extending_start, extending_turn, extending_done}
 use Rattle.sha1_digest.proofs.compression.sixteen_more.Goals as goal
 
 pub loop-i-init : goal.loop-i-init

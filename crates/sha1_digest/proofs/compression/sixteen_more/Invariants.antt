@@ -1,5 +1,5 @@
-use Rattle.std.proofs.Common.{◌-◌, rules}
-use Rattle.sha1_digest.proofs.Words.{Extending, extending_start, extending_turn, extending_done}
+use Rattle.std.proofs.Common.{◌-◌}
+use Rattle.sha1_digest.proofs.Words.{Extending}
 use Rattle.sha1_digest.proofs.compression.sixteen_more.Given as goal
 
 abbrev pub invariant-loop-i : goal.invariant-loop-i

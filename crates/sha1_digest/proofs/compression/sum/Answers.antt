@@ -1,5 +1,4 @@
 use Rattle.sha1_digest.proofs.Steps.{summed}
-use Rattle.std.proofs.Common.{rules}
 use Rattle.sha1_digest.proofs.compression.sum.Goals as goal
 
 pub returns : goal.returns

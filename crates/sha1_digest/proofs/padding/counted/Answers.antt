@@ -1,4 +1,4 @@
-use Rattle.std.proofs.Common.{ℕ, ◌/◌, [], ◌++◌, take, ap, ◌∙◌, arith, rules}
+use Rattle.std.proofs.Common.{ℕ, ◌/◌, [], ◌++◌, take, ap, ◌∙◌, arith}
 use Rattle.sha1_digest.specs.Finished.{bytes4, count_of}
 use Rattle.sha1_digest.proofs.Padded.{stored8, bits}
 use Rattle.sha1_digest.proofs.padding.counted.Goals as goal

@@ -1,5 +1,4 @@
 use Rattle.sha1_digest.proofs.Padded.{digested}
-use Rattle.std.proofs.Common.{rules}
 use Rattle.sha1_digest.proofs.padding.finish.Goals as goal
 
 pub returns : goal.returns

@@ -1,4 +1,3 @@
-use Rattle.std.proofs.Common.{rules}
 use Rattle.sha1_digest.proofs.Padded.{last_one, last_two}
 use Rattle.sha1_digest.proofs.padding.last.Goals as goal
 

@@ -1,4 +1,3 @@
-use Rattle.std.proofs.Common.{rules}
 use Rattle.sha1_digest.proofs.Padded.{ran}
 use Rattle.sha1_digest.proofs.padding.run.Goals as goal
 

@@ -1,8 +1,5 @@
-use Rattle.utf8.proofs.Count.{Counted, start, at_most, turn, done}
-use lib.ListN.{length}
+use Rattle.utf8.proofs.Count.{start, at_most, turn, done}
 use native.Mathlib.Omega.{arith}
-use Prim.Native.Nat.{◌-◌}
-use borrow.Author.Rules.{rules}
 use Rattle.utf8.proofs.points.code_points.Goals as goal
 
 pub loop-i-init : goal.loop-i-init

@@ -1,8 +1,6 @@
-use Rattle.utf8.proofs.Count.{Counted, start, at_most, turn, done}
+use Rattle.utf8.proofs.Count.{Counted}
 use lib.ListN.{length}
-use native.Mathlib.Omega.{arith}
 use Prim.Native.Nat.{◌-◌}
-use borrow.Author.Rules.{rules}
 use Rattle.utf8.proofs.points.code_points.Given as goal
 
 abbrev pub invariant-loop-i : goal.invariant-loop-i

@@ -1,6 +1,5 @@
 use native.Mathlib.Omega.{arith}
 use Rattle.utf8.proofs.Count.{below, tail, above}
-use borrow.Author.Rules.{rules}
 use Rattle.utf8.proofs.points.starting.Goals as goal
 
 pub returns-then-b-lt128 : goal.returns-then-b-lt128

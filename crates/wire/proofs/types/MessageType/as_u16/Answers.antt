@@ -2,7 +2,6 @@ use native.Mathlib.Omega.{arith}
 use borrow.Author.Tests.{le-ltb}
 use Rattle.wire.specs.TypeNumber.{type_number}
 use Rattle.wire.proofs.Classes.{class_below, numbered}
-use borrow.Author.Rules.{rules}
 use Rattle.wire.proofs.types.MessageType.as_u16.Goals as goal
 
 pub type_number-requires : goal.type_number-requires

@@ -1,7 +1,6 @@
 use Rattle.wire.proofs.Classes.{known}
 use borrow.Author.Tests.{le-ltb}
 use Rattle.wire.specs.TypeNumber.{type_from}
-use borrow.Author.Rules.{rules}
 use Rattle.wire.proofs.types.MessageType.from_u16.Goals as goal
 
 pub returns-then-value-lt16384 : goal.returns-then-value-lt16384
