@@ -4,7 +4,7 @@ use stun_io::words::is_blank;
 
 // Where reading hex text stands: how many digits there were and the last of them, line and column, and whether the line
 // is a comment or a character was at fault.
-#[derive(Drop)]
+#[derive(Clone, Copy)]
 pub struct Reached {
     pub digits: u64,
     last: u8,
