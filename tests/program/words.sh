@@ -22,19 +22,17 @@ breaking() { python3 tests/program/breaking.py "$@"; }
 # a call whose standard output has room for so many bytes
 narrow() { python3 tests/program/narrow.py "$@"; }
 
-# A tree with our launcher in $work/tree, and a program that is a line of sh; rt, which it asks for a proof, is a line of sh too, and what
-# compiles without one takes the program as it is.
+# A tree with our launcher in $work/tree, and a program that is a line of sh; rt, which it asks for a proof, is a line of sh too.
 tree() {
-    mkdir -p "$work/bin" "$work/tree/crates/stun/src" "$work/tree/target/bin" "$work/tree/tools"
+    mkdir -p "$work/bin" "$work/tree/crates/stun/src" "$work/tree/crates/stun/out" "$work/tree/tools"
     cp stun "$work/tree/stun"
-    cp tools/prove tools/proved tools/reached "$work/tree/tools"
+    cp tools/prove tools/reached "$work/tree/tools"
     echo stun: >"$work/tree/crates.txt"
     touch "$work/tree/crates/stun/src/main.rt"
-    printf '#!/bin/sh\n%s\n' "$1" >"$work/tree/target/bin/stun"
-    printf '#!/bin/sh\necho "rt $* in $(basename "$PWD")" >>"$work/asked"\n[ "$1" = version ] || { %s; }\n' "${2-:}" >"$work/bin/rt"
+    printf '#!/bin/sh\n%s\n' "$1" >"$work/tree/crates/stun/out/stun"
+    printf '#!/bin/sh\necho "rt $* in $(basename "$PWD")" >>"$work/asked"\n%s\n' "${2-:}" >"$work/bin/rt"
     printf '#!/bin/sh\nprintf "%%s\\n" "$(command -v env)" "$1" "a word"\n' >"$work/tree/tools/words"
-    printf '#!/bin/sh\necho "compile $1" >>"$work/asked"; cp "$work/tree/target/bin/$1" "$2"\n' >"$work/tree/tools/compile"
-    chmod +x "$work/tree/target/bin/stun" "$work/bin/rt" "$work/tree/tools/words" "$work/tree/tools/compile"
+    chmod +x "$work/tree/crates/stun/out/stun" "$work/bin/rt" "$work/tree/tools/words"
     export work PATH="$work/bin:$PATH"
     cd "$work/tree" || exit
 }

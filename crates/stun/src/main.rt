@@ -1,12 +1,27 @@
-// stun: the front door. Shows, lists, writes and checks STUN messages; every rule is the library's.
+// stun: the front door. Shows, lists, writes and checks STUN messages; every rule is the library's. Each command answers what the
+// program is to end with: 1 where a datagram or a line is at fault, 2 where something couldn't be read, written or understood.
 #![tactic(auto)]
 
 use hex_text::Hex;
+use std::env::{Env, FillError};
+use std::io::Error;
+use std::process::ExitCode;
 use stun_file::Form;
-use stun_io::errors::{complain, complain_column, fail, status};
-use stun_io::parts::{part, plus_u64};
+use stun_io::errors::{complain, complain_column, fail};
+use stun_io::parts::{part, plus, plus_u64};
 use stun_io::words::position;
 use stun_lines::answers::Job;
+
+// As many bytes as a file's name has room for, and an argument that is shown.
+const NAME: usize = 4096;
+
+// As many hex digits as a key has at most.
+const DIGITS: usize = 65536;
+
+// The system's numbers for an argument that is missing and for one that is too long.
+const EINVAL: i32 = 22;
+
+const ENAMETOOLONG: i32 = 36;
 
 // The launcher answers the help and the numbers.
 #[derive(Drop)]
@@ -28,15 +43,32 @@ enum Flag {
     Unknown,
 }
 
-// An argument's place in a list of words.
-fn word_at(i: usize, list: &[u8]) -> usize {
-    let mut arg = [0u8; 16];
-    let n = os::arg(i, &mut arg);
-    position(&arg[..n], list)
+// The size of an argument, whose bytes go to a buffer; nought where it is missing or too long.
+fn arg(rt: HostRuntime, i: usize, buf: &mut [u8]) -> usize {
+    rt.arg(i, buf).unwrap_or(0)
 }
 
-fn command_at(i: usize) -> Command {
-    let n = word_at(i, b"read lines write check");
+fn is_given(rt: HostRuntime, i: usize) -> bool {
+    let mut none = [0u8; 0];
+    match rt.arg(i, &mut none) {
+        Err(FillError::NotPresent) => false,
+        _ => true,
+    }
+}
+
+fn is_last(rt: HostRuntime, i: usize) -> bool {
+    is_given(rt, i) && !is_given(rt, plus(i, 1))
+}
+
+// An argument's place in a list of words.
+fn word_at(rt: HostRuntime, i: usize, list: &[u8]) -> usize {
+    let mut buf = [0u8; 16];
+    let n = arg(rt, i, &mut buf);
+    position(part(&buf, 0, n), list)
+}
+
+fn command_at(rt: HostRuntime, i: usize) -> Command {
+    let n = word_at(rt, i, b"read lines write check");
     match n {
         0 => Command::Read,
         1 => Command::Lines,
@@ -46,8 +78,8 @@ fn command_at(i: usize) -> Command {
     }
 }
 
-fn flag_at(i: usize) -> Flag {
-    let n = word_at(i, b"--walk --values --key --hex --raw");
+fn flag_at(rt: HostRuntime, i: usize) -> Flag {
+    let n = word_at(rt, i, b"--walk --values --key --hex --raw");
     match n {
         0 => Flag::Walk,
         1 => Flag::Values,
@@ -59,13 +91,13 @@ fn flag_at(i: usize) -> Flag {
 }
 
 // Refuses the argument at a place.
-fn refuse(i: usize) {
-    let mut arg = io::buffer();
-    let n = os::arg(i, &mut arg);
-    complain(b"stun: not understood: ");
-    complain(&arg[..n]);
-    complain(b" (stun alone shows the commands)\n");
-    status(2);
+fn refuse(rt: HostRuntime, i: usize) -> u8 {
+    let mut buf = [0u8; NAME];
+    let n = arg(rt, i, &mut buf);
+    complain(rt, b"stun: not understood: ");
+    complain(rt, part(&buf, 0, n));
+    complain(rt, b" (stun alone shows the commands)\n");
+    2
 }
 
 // A key's size; or it is none, which has been told.
@@ -75,158 +107,161 @@ enum Key {
     Bad,
 }
 
-fn bad_key(p: usize) -> Key {
-    complain(b"stun: the key");
-    complain_column(plus_u64(p as u64, 1));
-    status(2);
+fn bad_key(rt: HostRuntime, p: usize) -> Key {
+    complain(rt, b"stun: the key");
+    complain_column(rt, plus_u64(p as u64, 1));
     Key::Bad
 }
 
-fn odd_key() -> Key {
-    complain(b"stun: the key has an odd number of hex digits\n");
-    status(2);
+fn odd_key(rt: HostRuntime) -> Key {
+    complain(rt, b"stun: the key has an odd number of hex digits\n");
     Key::Bad
 }
 
 // A key in hex; its bytes go to `key`.
-fn key_of(s: &[u8], key: &mut [u8]) -> Key {
+fn key_of(rt: HostRuntime, s: &[u8], key: &mut [u8]) -> Key {
     let h = hex_text::unhex(s, key);
     match h {
         Hex::Bytes(size) => Key::Size(size),
-        Hex::Bad(p) => bad_key(p),
-        Hex::Odd => odd_key(),
+        Hex::Bad(p) => bad_key(rt, p),
+        Hex::Odd => odd_key(rt),
     }
 }
 
-// Is the argument whole that was read last?
-fn is_whole(what: &[u8]) -> bool {
-    if os::errno() == 0 {
-        return true;
-    }
-    fail(what);
-    false
+// The size of an argument that has to be there and whole; else that is told.
+fn whole(rt: HostRuntime, i: usize, buf: &mut [u8], what: &[u8]) -> Option<usize> {
+    let code = match rt.arg(i, buf) {
+        Ok(n) => return Some(n),
+        Err(FillError::NotPresent) => EINVAL,
+        Err(FillError::TooLong) => ENAMETOOLONG,
+    };
+    fail(rt, what, Error::from_raw_os_error(code));
+    None
 }
 
-fn key_at(i: usize, key: &mut [u8]) -> Key {
-    let mut arg = io::large_buffer();
-    let n = os::arg(i, &mut arg);
-    if !is_whole(b"stun: the key") {
+fn key_at(rt: HostRuntime, i: usize, key: &mut [u8]) -> Key {
+    let mut buf = [0u8; DIGITS];
+    let Some(n) = whole(rt, i, &mut buf, b"stun: the key") else {
         return Key::Bad;
-    }
-    key_of(&arg[..n], key)
+    };
+    key_of(rt, part(&buf, 0, n), key)
 }
 
 // No more words than so many are taken.
-fn takes(count: usize) -> bool {
-    if os::arg_count() > count {
-        refuse(count);
+fn takes(rt: HostRuntime, count: usize) -> bool {
+    if is_given(rt, count) {
+        refuse(rt, count);
         return false;
     }
     true
 }
 
-fn lines_of(job: Job) {
-    if takes(3) {
-        stun_lines::run(job, b"");
+fn lines_of(rt: HostRuntime, job: Job) -> u8 {
+    if !takes(rt, 3) {
+        return 2;
     }
+    stun_lines::run(rt, job, b"")
 }
 
-fn keyed_lines() {
-    if !takes(4) {
-        return;
+fn keyed_lines(rt: HostRuntime) -> u8 {
+    if !takes(rt, 4) {
+        return 2;
     }
-    let mut key = io::large_buffer();
-    let Key::Size(n) = key_at(3, &mut key) else {
-        return;
+    let mut key = [0u8; DIGITS];
+    let Key::Size(n) = key_at(rt, 3, &mut key) else {
+        return 2;
     };
-    stun_lines::run(Job::Keyed, part(&key, 0, n));
+    stun_lines::run(rt, Job::Keyed, part(&key, 0, n))
 }
 
-fn check_with(key: &[u8]) {
-    let mut path = io::buffer();
-    let n = os::arg(3, &mut path);
-    if is_whole(b"stun: the file's name") {
-        stun_read::check(&path[..n], key);
-    }
-}
-
-fn check_command() {
-    if os::arg_count() != 4 {
-        complain(b"stun: check takes a key in hex and a file (- for standard input)\n");
-        status(2);
-        return;
-    }
-    let mut key = io::large_buffer();
-    let Key::Size(n) = key_at(2, &mut key) else {
-        return;
+fn check_with(rt: HostRuntime, key: &[u8]) -> u8 {
+    let mut path = [0u8; NAME];
+    let Some(n) = whole(rt, 3, &mut path, b"stun: the file's name") else {
+        return 2;
     };
-    check_with(part(&key, 0, n));
+    stun_read::check(rt, part(&path, 0, n), key)
 }
 
-fn read_at(i: usize, form: Form) {
-    let mut path = io::buffer();
-    let n = os::arg(i, &mut path);
-    if is_whole(b"stun: the file's name") {
-        stun_read::read(&path[..n], form);
+fn check_command(rt: HostRuntime) -> u8 {
+    if !is_last(rt, 3) {
+        complain(
+            rt,
+            b"stun: check takes a key in hex and a file (- for standard input)\n",
+        );
+        return 2;
     }
+    let mut key = [0u8; DIGITS];
+    let Key::Size(n) = key_at(rt, 2, &mut key) else {
+        return 2;
+    };
+    check_with(rt, part(&key, 0, n))
+}
+
+fn read_at(rt: HostRuntime, i: usize, form: Form) -> u8 {
+    let mut path = [0u8; NAME];
+    let Some(n) = whole(rt, i, &mut path, b"stun: the file's name") else {
+        return 2;
+    };
+    stun_read::read(rt, part(&path, 0, n), form)
 }
 
 // A form before or behind the file.
-fn with_form(i: usize, at: usize) -> bool {
-    let flag = flag_at(i);
+fn with_form(rt: HostRuntime, i: usize, at: usize) -> Option<u8> {
+    let flag = flag_at(rt, i);
     match flag {
-        Flag::Hex => read_at(at, Form::Hex),
-        Flag::Raw => read_at(at, Form::Raw),
-        _ => return false,
+        Flag::Hex => Some(read_at(rt, at, Form::Hex)),
+        Flag::Raw => Some(read_at(rt, at, Form::Raw)),
+        _ => None,
     }
-    true
 }
 
-fn read_command() {
-    let n = os::arg_count();
-    if n == 3 {
-        read_at(2, Form::Told);
-        return;
+fn read_command(rt: HostRuntime) -> u8 {
+    if is_last(rt, 2) {
+        return read_at(rt, 2, Form::Told);
     }
-    if n == 4 {
-        if with_form(3, 2) {
-            return;
+    if is_last(rt, 3) {
+        if let Some(n) = with_form(rt, 3, 2) {
+            return n;
         }
-        if with_form(2, 3) {
-            return;
+        if let Some(n) = with_form(rt, 2, 3) {
+            return n;
         }
     }
-    complain(b"stun: read takes a file (- for standard input), and --hex or --raw\n");
-    status(2);
+    complain(
+        rt,
+        b"stun: read takes a file (- for standard input), and --hex or --raw\n",
+    );
+    2
 }
 
-fn lines_command() {
-    if os::arg_count() < 3 {
-        lines_of(Job::Reading);
-        return;
+fn lines_command(rt: HostRuntime) -> u8 {
+    if !is_given(rt, 2) {
+        return lines_of(rt, Job::Reading);
     }
-    let flag = flag_at(2);
+    let flag = flag_at(rt, 2);
     match flag {
-        Flag::Walk => lines_of(Job::Walk),
-        Flag::Values => lines_of(Job::Values),
-        Flag::Key => keyed_lines(),
-        _ => refuse(2),
+        Flag::Walk => lines_of(rt, Job::Walk),
+        Flag::Values => lines_of(rt, Job::Values),
+        Flag::Key => keyed_lines(rt),
+        _ => refuse(rt, 2),
     }
 }
 
-fn write_command() {
-    if takes(2) {
-        stun_write::run();
+fn write_command(rt: HostRuntime) -> u8 {
+    if !takes(rt, 2) {
+        return 2;
     }
+    stun_write::run(rt)
 }
 
-fn main() {
-    let command = command_at(1);
-    match command {
-        Command::Read => read_command(),
-        Command::Lines => lines_command(),
-        Command::Write => write_command(),
-        Command::Check => check_command(),
-        Command::Unknown => refuse(1),
-    }
+fn main(rt: HostRuntime) -> ExitCode {
+    let command = command_at(rt, 1);
+    let status = match command {
+        Command::Read => read_command(rt),
+        Command::Lines => lines_command(rt),
+        Command::Write => write_command(rt),
+        Command::Check => check_command(rt),
+        Command::Unknown => refuse(rt, 1),
+    };
+    ExitCode::from(status)
 }

@@ -1,10 +1,12 @@
 // One datagram of a file or of standard input, as raw bytes or as hex text.
 #![tactic(auto)]
 
-mod hex_text;
+mod hex_lines;
 
-use hex_text::{Reached, at_start, gather};
-use stun_io::errors::{complain, complain_column, complain_number, status, unread};
+use hex_lines::{Reached, at_start, gather};
+use std::fs::File;
+use std::io::Read;
+use stun_io::errors::{complain, complain_column, complain_number, unread};
 use stun_io::input::{Got, read_behind};
 use stun_io::parts::{first, part};
 use stun_io::words::is_blank;
@@ -27,11 +29,11 @@ enum Filled {
 }
 
 // Reads until the buffer is full or the file ends.
-fn fill(fd: i32, name: &[u8], file: &mut [u8; FILE]) -> Filled {
+fn fill<R: Read>(rt: HostRuntime, source: &mut R, name: &[u8], file: &mut [u8; FILE]) -> Filled {
     let mut have = 0;
     let mut left = FILE;
     while left > 0 && have < FILE {
-        let got = read_behind(fd, name, file, have);
+        let got = read_behind(rt, source, name, file, have);
         match got {
             Got::Upto(end) => have = end,
             Got::End => return Filled::Bytes(have),
@@ -62,22 +64,26 @@ fn is_text(s: &[u8]) -> bool {
     true
 }
 
-// Begins to tell what is wrong with a file; it makes the status 2.
-fn wrong(name: &[u8]) {
-    status(2);
-    complain(b"stun: ");
-    complain(name);
+// Begins to tell what is wrong with a file.
+fn wrong(rt: HostRuntime, name: &[u8]) {
+    complain(rt, b"stun: ");
+    complain(rt, name);
 }
 
-fn fault_at(name: &[u8], g: Reached) {
-    wrong(name);
-    complain_number(b": line ", g.line);
-    complain_column(g.column);
+fn fault_at(rt: HostRuntime, name: &[u8], g: Reached) {
+    wrong(rt, name);
+    complain_number(rt, b": line ", g.line);
+    complain_column(rt, g.column);
 }
 
-fn fault_odd(name: &[u8]) {
-    wrong(name);
-    complain(b": an odd number of hex digits\n");
+fn fault_odd(rt: HostRuntime, name: &[u8]) {
+    wrong(rt, name);
+    complain(rt, b": an odd number of hex digits\n");
+}
+
+fn fault_name(rt: HostRuntime, name: &[u8]) {
+    wrong(rt, name);
+    complain(rt, b": the name is not UTF-8\n");
 }
 
 // As many bytes as there are, or as there is room for.
@@ -92,32 +98,39 @@ fn of_size(total: u64, raw: &[u8]) -> Found {
     }
 }
 
-fn of_digits(name: &[u8], digits: u64, raw: &[u8]) -> Found {
+fn of_digits(rt: HostRuntime, name: &[u8], digits: u64, raw: &[u8]) -> Found {
     if digits % 2 != 0 {
-        fault_odd(name);
+        fault_odd(rt, name);
         return Found::Nothing;
     }
     of_size(digits / 2, raw)
 }
 
 // The text, of which so many bytes have been read.
-fn from_text(fd: i32, name: &[u8], have: usize, file: &mut [u8; FILE], raw: &mut [u8]) -> Found {
+fn from_text<R: Read>(
+    rt: HostRuntime,
+    source: &mut R,
+    name: &[u8],
+    have: usize,
+    file: &mut [u8; FILE],
+    raw: &mut [u8],
+) -> Found {
     let mut g = at_start();
     let mut n = have;
     let mut left = u64::MAX;
     while left > 0 && 0 < n {
         g = gather(part(file, 0, n), g, raw);
         if g.bad {
-            fault_at(name, g);
+            fault_at(rt, name, g);
             return Found::Nothing;
         }
-        let Filled::Bytes(more) = fill(fd, name, file) else {
+        let Filled::Bytes(more) = fill(rt, source, name, file) else {
             return Found::Nothing;
         };
         n = more;
         left -= 1;
     }
-    of_digits(name, g.digits, raw)
+    of_digits(rt, name, g.digits, raw)
 }
 
 // Of more bytes than there is room for the first are kept.
@@ -143,8 +156,9 @@ fn as_text(form: Form, s: &[u8]) -> bool {
 }
 
 // Text where the form says so.
-fn by_form(
-    fd: i32,
+fn by_form<R: Read>(
+    rt: HostRuntime,
+    source: &mut R,
     name: &[u8],
     form: Form,
     have: usize,
@@ -152,32 +166,48 @@ fn by_form(
     raw: &mut [u8],
 ) -> Found {
     if as_text(form, part(file, 0, have)) {
-        return from_text(fd, name, have, file, raw);
+        return from_text(rt, source, name, have, file, raw);
     }
     from_raw(part(file, 0, have), raw)
 }
 
 // The datagram of an open file: its first bytes, as many as raw has room for. Above 65,555 bytes the first 65,556 are
 // answered as all are.
-fn taken(fd: i32, name: &[u8], form: Form, raw: &mut [u8]) -> Found {
+fn taken<R: Read>(
+    rt: HostRuntime,
+    source: &mut R,
+    name: &[u8],
+    form: Form,
+    raw: &mut [u8],
+) -> Found {
     let mut file = [0u8; FILE];
-    let Filled::Bytes(have) = fill(fd, name, &mut file) else {
+    let Filled::Bytes(have) = fill(rt, source, name, &mut file) else {
         return Found::Nothing;
     };
-    by_form(fd, name, form, have, &mut file, raw)
+    by_form(rt, source, name, form, have, &mut file, raw)
 }
 
-// The datagram of the file that a path names, `-` for standard input.
-pub fn datagram(path: &[u8], form: Form, raw: &mut [u8]) -> Found {
-    if check::same(path, b"-") {
-        return taken(0, b"standard input", form, raw);
+// The datagram of the file that a path names.
+fn of_file(rt: HostRuntime, path: &str, form: Form, raw: &mut [u8]) -> Found {
+    match File::open(&rt, path) {
+        Ok(mut file) => taken(rt, &mut file, path.as_bytes(), form, raw),
+        Err(error) => {
+            unread(rt, path.as_bytes(), error);
+            Found::Nothing
+        }
     }
-    let fd = os::open_read(path);
-    if fd < 0 {
-        unread(path);
-        return Found::Nothing;
+}
+
+// The same, `-` for standard input. The library names files in UTF-8 alone.
+pub fn datagram(rt: HostRuntime, path: &[u8], form: Form, raw: &mut [u8]) -> Found {
+    if let b"-" = path {
+        return taken(rt, &mut rt.stdin(), b"standard input", form, raw);
     }
-    let f = taken(fd, path, form, raw);
-    libc::close(fd);
-    f
+    match std::str::from_utf8(path) {
+        Ok(path) => of_file(rt, path, form, raw),
+        Err(_) => {
+            fault_name(rt, path);
+            Found::Nothing
+        }
+    }
 }

@@ -1,27 +1,41 @@
 // Standard output through one lent buffer, which is written when it is full: for many answers.
-use crate::errors::{fail, status};
+use crate::errors::unwritten;
 use crate::parts::{part, plus};
-use libc::STDOUT_FILENO;
+use std::io::{Error, Write};
 
 pub const ROOM: usize = 65536;
 
-// What stands at the buffer's front and waits to be written, by its size; whether a write failed, and whether some input
-// was at fault.
-#[derive(Drop)]
+// What stands at the buffer's front and waits to be written, by its size; the first write that failed; whether some input was
+// at fault, and whether some couldn't be read.
+#[derive(Clone, Copy)]
 pub struct Output {
+    rt: HostRuntime,
     waiting: usize,
-    pub failed: bool,
+    failure: Option<i32>,
     fault: bool,
+    unread: bool,
 }
 
 impl Output {
     // Of which nothing was said yet.
-    pub fn new() -> Output {
+    pub fn new(rt: HostRuntime) -> Output {
         Output {
+            rt,
             waiting: 0,
-            failed: false,
+            failure: None,
             fault: false,
+            unread: false,
         }
+    }
+
+    // The handle that it writes by.
+    pub fn rt(&self) -> HostRuntime {
+        self.rt
+    }
+
+    // Did a write fail?
+    pub fn failed(&self) -> bool {
+        self.failure.is_some()
     }
 
     // Notes that some input was at fault.
@@ -30,10 +44,18 @@ impl Output {
         self
     }
 
+    // Notes that some input couldn't be read, which has been told.
+    pub fn unread(mut self) -> Output {
+        self.unread = true;
+        self
+    }
+
     // Writes at once. After a write that failed nothing more is written.
     fn write(mut self, s: &[u8]) -> Output {
-        if !self.failed {
-            self.failed = !io::write_all(STDOUT_FILENO, s);
+        if !self.failed() {
+            if let Err(error) = self.rt.stdout().write_all(s) {
+                self.failure = Some(error.raw_os_error().unwrap_or(0));
+            }
         }
         self
     }
@@ -121,15 +143,19 @@ impl Output {
         o
     }
 
-    // Writes what is left. A write that failed is told, and the status is 2; else 1 where some input was at fault.
-    pub fn finish(self, buf: &[u8; ROOM]) {
+    // Writes what is left, and answers what the program is to end with: as a write that failed makes it, or 2 where some input
+    // couldn't be read; else 1 where some input was at fault.
+    pub fn finish(self, buf: &[u8; ROOM]) -> u8 {
         let o = self.flush(buf);
-        if o.failed {
-            fail(b"stun: standard output");
-            return;
+        if let Some(code) = o.failure {
+            return unwritten(o.rt, Error::from_raw_os_error(code));
+        }
+        if o.unread {
+            return 2;
         }
         if o.fault {
-            status(1);
+            return 1;
         }
+        0
     }
 }

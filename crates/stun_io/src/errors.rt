@@ -1,37 +1,60 @@
-// Standard error, and the status that the program ends with.
-use libc::STDERR_FILENO;
+// Standard error: what is at fault, and the system's own words on a call that failed.
+use crate::parts::{find, minus, part};
+use std::io::{Error, ErrorKind, Write};
 
-pub fn complain(s: &[u8]) {
-    io::write_all(STDERR_FILENO, s);
+pub fn complain(rt: HostRuntime, s: &[u8]) {
+    let _ = rt.stderr().write_all(s);
 }
 
-pub fn complain_number(before: &[u8], n: u64) {
-    complain(before);
-    io::print_decimal(STDERR_FILENO, n);
+pub fn complain_number(rt: HostRuntime, before: &[u8], n: u64) {
+    complain(rt, before);
+    let mut digits = [0u8; 20];
+    let k = io::decimal(n, &mut digits);
+    complain(rt, &digits[..k]);
 }
 
-pub fn complain_column(n: u64) {
-    complain_number(b", column ", n);
-    complain(b": not a hex digit\n");
+pub fn complain_column(rt: HostRuntime, n: u64) {
+    complain_number(rt, b", column ", n);
+    complain(rt, b": not a hex digit\n");
 }
 
-// What the launcher is to end with: a program of this kit always ends with 0.
-pub fn status(n: u8) {
-    if 9 < n {
-        return;
-    }
-    let digit = [b'0' + n];
-    io::write_all(9, &digit);
+// An error's words, without the number in brackets that std has behind the system's.
+fn explain(rt: HostRuntime, error: Error) {
+    let mut text = [0u8; 160];
+    let mut room: &mut [u8] = &mut text;
+    let _ = write!(room, "{error} (");
+    let end = minus(find(&text, 0, b'('), 1);
+    complain(rt, part(&text, 0, end));
 }
 
-// Tells why the last call of the system failed, behind what it was about.
-pub fn fail(what: &[u8]) {
-    os::fail(what);
-    status(2);
+// Tells why a call of the system failed, behind what it was about.
+pub fn fail(rt: HostRuntime, what: &[u8], error: Error) {
+    complain(rt, what);
+    complain(rt, b": ");
+    explain(rt, error);
+    complain(rt, b"\n");
 }
 
 // The system's own words on a file that can't be read.
-pub fn unread(name: &[u8]) {
-    complain(b"stun: ");
-    fail(name);
+pub fn unread(rt: HostRuntime, name: &[u8], error: Error) {
+    complain(rt, b"stun: ");
+    fail(rt, name, error);
+}
+
+// What a write to standard output that failed makes the program end with. A pipe that nobody reads would have ended it by a signal, had
+// the library not turned that off: it ends quietly, with what a shell says of that signal.
+pub fn status_of(error: &Error) -> u8 {
+    match error.kind() {
+        ErrorKind::BrokenPipe => 141,
+        _ => 2,
+    }
+}
+
+// The same, once it has told why.
+pub fn unwritten(rt: HostRuntime, error: Error) -> u8 {
+    let status = status_of(&error);
+    if status == 2 {
+        fail(rt, b"stun: standard output", error);
+    }
+    status
 }

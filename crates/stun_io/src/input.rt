@@ -1,6 +1,7 @@
 // Bytes that are read.
 use crate::errors::unread;
 use crate::parts::plus;
+use std::io::Read;
 
 // A datagram above 65,555 bytes is answered by its header and by being too long, so its first 65,556 bytes do.
 pub const MOST: usize = 65556;
@@ -14,18 +15,22 @@ pub enum Got {
 }
 
 // Reads once behind what is there.
-pub fn read_behind(fd: i32, name: &[u8], input: &mut [u8], have: usize) -> Got {
+pub fn read_behind<R: Read>(
+    rt: HostRuntime,
+    source: &mut R,
+    name: &[u8],
+    input: &mut [u8],
+    have: usize,
+) -> Got {
     if input.len() < have {
         return Got::End;
     }
-    let got = libc::read(fd, &mut input[have..]);
-    if got < 0 {
-        unread(name);
-        return Got::Failed;
+    match source.read(&mut input[have..]) {
+        Ok(0) => Got::End,
+        Ok(n) => Got::Upto(plus(have, n)),
+        Err(error) => {
+            unread(rt, name, error);
+            Got::Failed
+        }
     }
-    let n = io::count(got, input);
-    if n == 0 {
-        return Got::End;
-    }
-    Got::Upto(plus(have, n))
 }

@@ -1,6 +1,5 @@
 // Words and remarks in text.
 use crate::parts::{between, find, plus};
-use check::same;
 
 pub fn is_blank(b: u8) -> bool {
     match b {
@@ -23,7 +22,7 @@ pub fn position(word: &[u8], list: &[u8]) -> usize {
     let mut left = list.len();
     while left > 0 && from < list.len() {
         let end = find(list, from, b' ');
-        if same(word, between(list, from, end)) {
+        if word == between(list, from, end) {
             return number;
         }
         from = plus(end, 1);

@@ -11,7 +11,7 @@ use wire::transaction_id::TransactionId;
 use wire::types::MessageClass;
 
 // What is asked of each datagram.
-#[derive(Drop)]
+#[derive(Clone, Copy)]
 pub enum Job {
     Reading,
     Walk,

@@ -6,7 +6,6 @@ mod progress;
 
 use answers::{Job, answer};
 use hex_text::Hex;
-use libc::STDIN_FILENO;
 use stun_io::buffered::{Output, ROOM};
 use stun_io::errors::{complain, complain_column, complain_number};
 use stun_io::input::{Got, MOST, read_behind};
@@ -20,7 +19,7 @@ const INPUT: usize = 131328;
 // answered. Of a line that is longer than the input buffer, how many characters are past (0: there is no such line), the
 // column of the first that is no digit (0: none so far), and whether that one is a carriage return. Last, how the output
 // stands.
-#[derive(Drop)]
+#[derive(Clone, Copy)]
 struct State {
     go: bool,
     have: usize,
@@ -36,11 +35,11 @@ struct State {
 // The answer to a line that is no hex: by the column of the first character that is no digit, or 0 where the digits are an
 // odd number.
 fn bad_line(line: u64, column: u64, o: Output, buf: &mut [u8; ROOM]) -> Output {
-    complain_number(b"stun: line ", line);
+    complain_number(o.rt(), b"stun: line ", line);
     if column == 0 {
-        complain(b": an odd number of hex digits\n");
+        complain(o.rt(), b": an odd number of hex digits\n");
     } else {
-        complain_column(column);
+        complain_column(o.rt(), column);
     }
     o.faulty().put(buf, b"?\n")
 }
@@ -250,6 +249,13 @@ fn stopped(c: State) -> State {
     c
 }
 
+// No more can be read.
+fn failed(c: State) -> State {
+    let mut c = stopped(c);
+    c.out = c.out.unread();
+    c
+}
+
 // Reads once.
 fn turn(
     c: State,
@@ -259,22 +265,29 @@ fn turn(
     raw: &mut [u8; MOST],
     buf: &mut [u8; ROOM],
 ) -> State {
-    let got = read_behind(STDIN_FILENO, b"standard input", input, c.have);
+    let rt = c.out.rt();
+    let got = read_behind(rt, &mut rt.stdin(), b"standard input", input, c.have);
     match got {
         Got::Upto(end) => filled(c, input, end, job, key, raw, buf),
         Got::End => last(c, input, job, key, raw, buf),
-        Got::Failed => stopped(c),
+        Got::Failed => failed(c),
     }
 }
 
 fn goes_on(c: State) -> bool {
-    let o = c.out;
-    c.go && !o.failed
+    c.go && !c.out.failed()
 }
 
-// All of standard input, as long as the answers can be written.
-fn all(job: Job, key: &[u8], input: &mut [u8; INPUT], raw: &mut [u8; MOST], buf: &mut [u8; ROOM]) {
-    let mut w = progress::begin();
+// All of standard input, as long as the answers can be written; answers what to end with.
+fn all(
+    rt: HostRuntime,
+    job: Job,
+    key: &[u8],
+    input: &mut [u8; INPUT],
+    raw: &mut [u8; MOST],
+    buf: &mut [u8; ROOM],
+) -> u8 {
+    let mut w = progress::begin(rt);
     let mut c = State {
         go: true,
         have: 0,
@@ -284,22 +297,21 @@ fn all(job: Job, key: &[u8], input: &mut [u8; INPUT], raw: &mut [u8; MOST], buf:
         seen: 0,
         bad: 0,
         cr: false,
-        out: Output::new(),
+        out: Output::new(rt),
     };
     let mut left = u64::MAX;
     while left > 0 && goes_on(c) {
         c = turn(c, input, job, key, raw, buf);
-        w = progress::tick(w, c.done);
+        w = progress::tick(rt, w, c.done);
         left -= 1;
     }
-    progress::end(w, c.done);
-    let o = c.out;
-    o.finish(buf);
+    progress::end(rt, w, c.done);
+    c.out.finish(buf)
 }
 
-pub fn run(job: Job, key: &[u8]) {
+pub fn run(rt: HostRuntime, job: Job, key: &[u8]) -> u8 {
     let mut input = [0u8; INPUT];
     let mut raw = [0u8; MOST];
     let mut buf = [0u8; ROOM];
-    all(job, key, &mut input, &mut raw, &mut buf);
+    all(rt, job, key, &mut input, &mut raw, &mut buf)
 }

@@ -1,26 +1,33 @@
 // How far long work is: on a terminal's standard error, once a second, where the answers go elsewhere.
-use libc::{STDERR_FILENO, STDOUT_FILENO};
+use std::io::IsTerminal;
+use std::time::{SystemTime, UNIX_EPOCH};
 use stun_io::errors::{complain, complain_number};
 
 // The second of the last report, and how many lines were done then.
-#[derive(Drop)]
+#[derive(Clone, Copy)]
 pub struct Watch {
     pub on: bool,
-    pub second: i64,
+    pub second: u64,
     pub done: u64,
 }
 
-fn second() -> i64 {
-    let mut t = 0i64;
-    libc::time(&mut t)
+// By the system's clock; nought where it tells no time.
+fn second(rt: HostRuntime) -> u64 {
+    let Ok(now) = SystemTime::now(&rt) else {
+        return 0;
+    };
+    match now.duration_since(UNIX_EPOCH) {
+        Ok(past) => past.as_secs(),
+        Err(_) => 0,
+    }
 }
 
-pub fn begin() -> Watch {
-    if libc::isatty(STDERR_FILENO) == 1 {
-        if libc::isatty(STDOUT_FILENO) != 1 {
+pub fn begin(rt: HostRuntime) -> Watch {
+    if rt.stderr().is_terminal() {
+        if !rt.stdout().is_terminal() {
             return Watch {
                 on: true,
-                second: second(),
+                second: second(rt),
                 done: 0,
             };
         }
@@ -32,10 +39,10 @@ pub fn begin() -> Watch {
     }
 }
 
-fn tell(done: u64, more: u64) {
-    complain_number(b"\r", done);
-    complain_number(b" lines, ", more);
-    complain(b" in the last second ");
+fn tell(rt: HostRuntime, done: u64, more: u64) {
+    complain_number(rt, b"\r", done);
+    complain_number(rt, b" lines, ", more);
+    complain(rt, b" in the last second ");
 }
 
 fn since(then: u64, now: u64) -> u64 {
@@ -45,13 +52,13 @@ fn since(then: u64, now: u64) -> u64 {
     now - then
 }
 
-pub fn tick(w: Watch, done: u64) -> Watch {
+pub fn tick(rt: HostRuntime, w: Watch, done: u64) -> Watch {
     if w.on {
-        let now = second();
+        let now = second(rt);
         if now == w.second {
             return w;
         }
-        tell(done, since(w.done, done));
+        tell(rt, done, since(w.done, done));
         return Watch {
             on: true,
             second: now,
@@ -61,9 +68,9 @@ pub fn tick(w: Watch, done: u64) -> Watch {
     w
 }
 
-pub fn end(w: Watch, done: u64) {
+pub fn end(rt: HostRuntime, w: Watch, done: u64) {
     if w.on {
-        complain_number(b"\r", done);
-        complain(b" lines, done                    \n");
+        complain_number(rt, b"\r", done);
+        complain(rt, b" lines, done                    \n");
     }
 }

@@ -21,7 +21,7 @@ pub const LARGEST: usize = 131072;
 // As many fields as a call has at most, and the end behind them.
 const FIELDS: usize = 5;
 
-#[derive(Drop)]
+#[derive(Clone, Copy)]
 enum Call {
     Show,
     Dump,
@@ -39,7 +39,7 @@ enum Call {
 }
 
 // What a line comes to; Message and Buffer are to be shown.
-#[derive(Drop)]
+#[derive(Clone, Copy)]
 pub enum Said {
     Nothing,
     Size(usize),
@@ -150,7 +150,7 @@ fn fits(n: u64, wanted: Wanted) -> bool {
 }
 
 // The number or the size that each field says.
-#[derive(Drop)]
+#[derive(Clone, Copy)]
 struct Fields {
     first: u64,
     second: u64,
@@ -160,7 +160,7 @@ struct Fields {
 }
 
 // The fields of a call, or what was wanted and isn't there.
-#[derive(Drop)]
+#[derive(Clone, Copy)]
 enum Taken {
     Whole(Fields),
     Lacks(Wanted),

@@ -2,7 +2,7 @@
 use stun_io::buffered::{Output, ROOM};
 use stun_io::parts::{between, find, plus};
 
-#[derive(Drop)]
+#[derive(Clone, Copy)]
 pub enum Wanted {
     Call,
     Line,

@@ -1,5 +1,4 @@
 // The fields of a script's line, and what they say.
-use check::same;
 use digits::Number;
 use hex_text::Hex;
 use stun_io::parts::{between, find, plus};
@@ -49,7 +48,7 @@ pub fn bytes_of(t: &[u8], out: &mut [u8]) -> Hex {
     if t.len() == 0 {
         return Hex::Odd;
     }
-    if same(t, b"-") {
+    if let b"-" = t {
         return Hex::Bytes(0);
     }
     hex_text::unhex(t, out)
@@ -68,7 +67,7 @@ fn put_type(t: &[u8], out: &mut [u8], at: usize) -> bool {
 
 // The same of types parted by commas, two bytes each, `-` for none.
 pub fn types_of(t: &[u8], out: &mut [u8]) -> Hex {
-    if same(t, b"-") {
+    if let b"-" = t {
         return Hex::Bytes(0);
     }
     let mut from = 0;

@@ -84,7 +84,7 @@ fn told(line: Line, what: Said, buffer: &[u8], o: Output, buf: &mut [u8; ROOM]) 
 }
 
 // How large the buffer is, and how the output stands.
-#[derive(Drop)]
+#[derive(Clone, Copy)]
 struct State {
     size: usize,
     out: Output,
@@ -112,40 +112,49 @@ fn answer(
 }
 
 fn goes_on(c: State) -> bool {
-    let o = c.out;
-    !o.failed
+    !c.out.failed()
 }
 
-// All of standard input, as long as the answers can be written.
+// The input has ended, or can't be read.
+fn ended(line: Line, c: State) -> State {
+    let mut c = c;
+    if line.failed {
+        c.out = c.out.unread();
+    }
+    c
+}
+
+// All of standard input, as long as the answers can be written; answers what to end with.
 fn all(
+    rt: HostRuntime,
     input: &mut [u8; LONGEST],
     bytes: &mut [u8; LONGEST],
     store: &mut [u8; LARGEST],
     buf: &mut [u8; ROOM],
-) {
+) -> u8 {
     let mut line = script::at_start();
     let mut c = State {
         size: 65552,
-        out: Output::new(),
+        out: Output::new(rt),
     };
     let mut left = u64::MAX;
     while left > 0 && goes_on(c) {
-        line = script::next(line, input);
+        line = script::next(rt, line, input);
         if !line.on {
+            c = ended(line, c);
             break;
         }
         c = answer(line, input, c, bytes, store, buf);
         left -= 1;
     }
-    let o = c.out;
-    o.finish(buf);
+    c.out.finish(buf)
 }
 
 // The longest line has 262,143 characters, so no field says more than 262,144 bytes and no `load` more than 131,072.
-pub fn run() {
+pub fn run(rt: HostRuntime) -> u8 {
     let mut input = [0u8; LONGEST];
     let mut bytes = [0u8; LONGEST];
     let mut store = [0xAAu8; LARGEST];
     let mut buf = [0u8; ROOM];
-    all(&mut input, &mut bytes, &mut store, &mut buf);
+    all(rt, &mut input, &mut bytes, &mut store, &mut buf)
 }

@@ -1,11 +1,11 @@
 // The lines of a script, which is standard input.
-use libc::STDIN_FILENO;
 use stun_io::input::{Got, read_behind};
 use stun_io::parts::{find, move_down, part};
 use stun_io::words::is_comment;
 
-// A line, and how much of the buffer is read. Of a long line, which is longer than the buffer, only the end is there.
-#[derive(Drop)]
+// A line, and how much of the buffer is read. Of a long line, which is longer than the buffer, only the end is there. Last,
+// whether reading failed, which has been told.
+#[derive(Clone, Copy)]
 pub struct Line {
     pub on: bool,
     pub long: bool,
@@ -13,6 +13,7 @@ pub struct Line {
     pub end: usize,
     have: usize,
     over: bool,
+    pub failed: bool,
 }
 
 // No line yet.
@@ -24,6 +25,7 @@ fn waiting(long: bool, start: usize, have: usize) -> Line {
         end: 0,
         have,
         over: false,
+        failed: false,
     }
 }
 
@@ -45,7 +47,8 @@ pub fn idle(line: Line) -> bool {
     behind(line) == line.have
 }
 
-fn over() -> Line {
+// There is no line any more.
+fn over(failed: bool) -> Line {
     Line {
         on: false,
         long: false,
@@ -53,6 +56,7 @@ fn over() -> Line {
         end: 0,
         have: 0,
         over: true,
+        failed,
     }
 }
 
@@ -73,24 +77,25 @@ fn last(line: Line, have: usize) -> Line {
         end: have,
         have,
         over: true,
+        failed: false,
     }
 }
 
 // Reads behind what is there, where there is room.
-fn more(line: Line, have: usize, input: &mut [u8]) -> Line {
+fn more(rt: HostRuntime, line: Line, have: usize, input: &mut [u8]) -> Line {
     if input.len() <= have {
         return overlong(line, input);
     }
-    let got = read_behind(STDIN_FILENO, b"standard input", input, have);
+    let got = read_behind(rt, &mut rt.stdin(), b"standard input", input, have);
     match got {
         Got::Upto(end) => waiting(line.long, 0, end),
         Got::End => last(line, have),
-        Got::Failed => over(),
+        Got::Failed => over(true),
     }
 }
 
 // Takes the line that starts where the last one ended, or reads for its end.
-fn seek(line: Line, input: &mut [u8]) -> Line {
+fn seek(rt: HostRuntime, line: Line, input: &mut [u8]) -> Line {
     let start = line.start;
     let have = line.have;
     let end = find(part(input, 0, have), start, 10);
@@ -102,21 +107,22 @@ fn seek(line: Line, input: &mut [u8]) -> Line {
             end,
             have,
             over: false,
+            failed: false,
         };
     }
     let rest = move_down(input, start, have);
-    more(line, rest, input)
+    more(rt, line, rest, input)
 }
 
 // The next line, without its end; not on where there is none.
-pub fn next(line: Line, input: &mut [u8]) -> Line {
+pub fn next(rt: HostRuntime, line: Line, input: &mut [u8]) -> Line {
     if line.over {
-        return over();
+        return over(false);
     }
     let mut line = waiting(false, behind(line), line.have);
     let mut left = u64::MAX;
     while left > 0 && !line.on && !line.over {
-        line = seek(line, input);
+        line = seek(rt, line, input);
         left -= 1;
     }
     line

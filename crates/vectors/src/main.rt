@@ -2,9 +2,10 @@
 #![tactic(auto)]
 
 mod message_vectors;
+mod printing;
 mod reader_vectors;
 
-fn main() {
-    reader_vectors::run();
-    message_vectors::run();
+fn main(rt: HostRuntime) {
+    reader_vectors::run(rt);
+    message_vectors::run(rt);
 }

@@ -1,6 +1,6 @@
 // RFC 5769's messages: read, checked under their keys and under a key with one bit changed, their addresses and realms.
+use crate::printing::{put, put_decimal, put_hex};
 use crate::reader_vectors::wide;
-use libc::STDOUT_FILENO;
 use read_integrity::check_integrity;
 use read_message::Answer;
 use read_realm::realm_to_use;
@@ -16,52 +16,55 @@ const XOR_MAPPED_ADDRESS: u16 = 0x0020;
 
 const ERROR_CODE: u16 = 0x0009;
 
-fn put(s: &[u8]) {
-    io::write_all(STDOUT_FILENO, s);
-}
-
-fn hex(s: &[u8]) {
+fn hex(rt: HostRuntime, s: &[u8]) {
     let mut i = 0;
     while i < s.len() {
-        io::print_hex(STDOUT_FILENO, wide(s[i]) as u64, 2);
+        put_hex(rt, wide(s[i]) as u64, 2);
         i += 1;
     }
 }
 
-fn number(n: usize) {
-    put(b" ");
-    io::print_decimal(STDOUT_FILENO, n as u64);
+fn number(rt: HostRuntime, n: usize) {
+    put(rt, b" ");
+    put_decimal(rt, n as u64);
 }
 
-fn name(section: &[u8], what: &[u8]) {
-    put(b"message ");
-    put(section);
-    put(what);
+fn name(rt: HostRuntime, section: &[u8], what: &[u8]) {
+    put(rt, b"message ");
+    put(rt, section);
+    put(rt, what);
 }
 
-fn whole(section: &[u8], class: u16, method: u16, count: usize, id: TransactionId) {
-    name(section, b" whole");
-    number(class as usize);
-    number(method as usize);
-    number(count);
-    put(b" ");
+fn whole(
+    rt: HostRuntime,
+    section: &[u8],
+    class: u16,
+    method: u16,
+    count: usize,
+    id: TransactionId,
+) {
+    name(rt, section, b" whole");
+    number(rt, class as usize);
+    number(rt, method as usize);
+    number(rt, count);
+    put(rt, b" ");
     let bytes = id.bytes;
-    hex(&bytes);
+    hex(rt, &bytes);
 }
 
-fn broken(section: &[u8], reason: u8, place: usize) {
-    name(section, b" broken");
-    number(reason as usize);
-    number(place);
+fn broken(rt: HostRuntime, section: &[u8], reason: u8, place: usize) {
+    name(rt, section, b" broken");
+    number(rt, reason as usize);
+    number(rt, place);
 }
 
-fn refused(section: &[u8], n: u8) {
-    name(section, b" refused");
-    number(n as usize);
+fn refused(rt: HostRuntime, section: &[u8], n: u8) {
+    name(rt, section, b" refused");
+    number(rt, n as usize);
 }
 
 // The reader's answer.
-fn read(section: &[u8], d: &[u8]) {
+fn read(rt: HostRuntime, section: &[u8], d: &[u8]) {
     let r = read_message::read(d);
     let id = r.id;
     let answer = r.answer;
@@ -70,51 +73,51 @@ fn read(section: &[u8], d: &[u8]) {
             class,
             method,
             count,
-        } => whole(section, class.as_u16(), method.code, count, id),
+        } => whole(rt, section, class.as_u16(), method.code, count, id),
         Answer::Broken {
             class: _,
             method: _,
             reason,
             place,
-        } => broken(section, reason, place),
-        Answer::Refused { number: n } => refused(section, n),
+        } => broken(rt, section, reason, place),
+        Answer::Refused { number: n } => refused(rt, section, n),
     }
-    put(b"\n");
+    put(rt, b"\n");
 }
 
-fn checked(section: &[u8], what: &[u8], d: &[u8], key: &[u8]) {
-    name(section, what);
-    number(check_integrity(d, key) as usize);
-    put(b"\n");
+fn checked(rt: HostRuntime, section: &[u8], what: &[u8], d: &[u8], key: &[u8]) {
+    name(rt, section, what);
+    number(rt, check_integrity(d, key) as usize);
+    put(rt, b"\n");
 }
 
 // A datagram with FINGERPRINT is whole only where that is right.
-fn fingerprint(section: &[u8], d: &[u8]) {
-    name(section, b"_fingerprint");
+fn fingerprint(rt: HostRuntime, section: &[u8], d: &[u8]) {
+    name(rt, section, b"_fingerprint");
     if read_first::has(d, 0x8028) {
-        put(b" yes\n");
+        put(rt, b" yes\n");
     } else {
-        put(b" no\n");
+        put(rt, b" no\n");
     }
 }
 
-fn realm<'a>(section: &[u8], d: &'a [u8], site: &'a [u8]) {
-    name(section, b"_realm ");
-    put(realm_to_use(d, site));
-    put(b"\n");
+fn realm<'a>(rt: HostRuntime, section: &[u8], d: &'a [u8], site: &'a [u8]) {
+    name(rt, section, b"_realm ");
+    put(rt, realm_to_use(d, site));
+    put(rt, b"\n");
 }
 
 // XOR-MAPPED-ADDRESS: family, port and IP.
-fn family_port_ip(section: &[u8], family: u8, port: u16, ip: [u8; 16]) {
-    name(section, b"_address");
-    number(family as usize);
-    number(port as usize);
-    put(b" ");
-    hex(&ip);
-    put(b"\n");
+fn family_port_ip(rt: HostRuntime, section: &[u8], family: u8, port: u16, ip: [u8; 16]) {
+    name(rt, section, b"_address");
+    number(rt, family as usize);
+    number(rt, port as usize);
+    put(rt, b" ");
+    hex(rt, &ip);
+    put(rt, b"\n");
 }
 
-fn address(section: &[u8], d: &[u8]) {
+fn address(rt: HostRuntime, section: &[u8], d: &[u8]) {
     let r = read_message::read(d);
     let id = r.id;
     let t = read_typed::value_of(
@@ -125,21 +128,29 @@ fn address(section: &[u8], d: &[u8]) {
     let v = t.value;
     let ip = t.ip;
     if let Value::Address { family, port } = v {
-        family_port_ip(section, family.as_u8(), port, ip);
+        family_port_ip(rt, section, family.as_u8(), port, ip);
     }
 }
 
-fn message<'a>(section: &[u8], d: &'a [u8], key: &[u8], other: &[u8], site: &'a [u8]) {
-    read(section, d);
-    checked(section, b"_integrity", d, key);
-    checked(section, b"_other_key", d, other);
-    fingerprint(section, d);
-    realm(section, d, site);
-    address(section, d);
+fn message<'a>(
+    rt: HostRuntime,
+    section: &[u8],
+    d: &'a [u8],
+    key: &[u8],
+    other: &[u8],
+    site: &'a [u8],
+) {
+    read(rt, section, d);
+    checked(rt, section, b"_integrity", d, key);
+    checked(rt, section, b"_other_key", d, other);
+    fingerprint(rt, section, d);
+    realm(rt, section, d, site);
+    address(rt, section, d);
 }
 
-fn request() {
+fn request(rt: HostRuntime) {
     message(
+        rt,
         b"2.1",
         b"\x00\x01\x00X!\x12\xA4B\xB7\xE7\xA7\x01\xBC4\xD6\x86\xFA\x87\xDF\xAE\x80\x22\x00\x10STUN\
         \x20test client\x00$\x00\x04n\x00\x01\xFF\x80)\x00\x08\x93/\xF9\xB1Q&;6\x00\x06\x00\x09e\
@@ -151,8 +162,9 @@ fn request() {
     );
 }
 
-fn ipv4_response() {
+fn ipv4_response(rt: HostRuntime) {
     message(
+        rt,
         b"2.2",
         b"\x01\x01\x00<!\x12\xA4B\xB7\xE7\xA7\x01\xBC4\xD6\x86\xFA\x87\xDF\xAE\x80\x22\x00\x0Btest\
         \x20vector \x00 \x00\x08\x00\x01\xA1G\xE1\x12\xA6C\x00\x08\x00\x14+\x91\xF5\x99\xFD\x9E\
@@ -163,8 +175,9 @@ fn ipv4_response() {
     );
 }
 
-fn ipv6_response() {
+fn ipv6_response(rt: HostRuntime) {
     message(
+        rt,
         b"2.3",
         b"\x01\x01\x00H!\x12\xA4B\xB7\xE7\xA7\x01\xBC4\xD6\x86\xFA\x87\xDF\xAE\x80\x22\x00\x0Btest\
         \x20vector \x00 \x00\x14\x00\x02\xA1G\x01\x13\xA9\xFA\xA5\xD3\xF1y\xBC%\xF4\xB5\xBE\xD2\
@@ -176,8 +189,9 @@ fn ipv6_response() {
     );
 }
 
-fn long_term_request() {
+fn long_term_request(rt: HostRuntime) {
     message(
+        rt,
         b"2.4",
         b"\x00\x01\x00`!\x12\xA4Bx\xAD43\xC6\xADr\xC0)\xDAA.\x00\x06\x00\x12\xE3\x83\x9E\xE3\x83\
         \x88\xE3\x83\xAA\xE3\x83\x83\xE3\x82\xAF\xE3\x82\xB9\x00\x00\x00\x15\x00\x1Cf//499k954d6\
@@ -190,19 +204,20 @@ fn long_term_request() {
 }
 
 // 2.1 with one bit of its FINGERPRINT changed.
-fn changed() {
+fn changed(rt: HostRuntime) {
     let d =
         b"\x00\x01\x00X!\x12\xA4B\xB7\xE7\xA7\x01\xBC4\xD6\x86\xFA\x87\xDF\xAE\x80\x22\x00\x10STUN\
         \x20test client\x00$\x00\x04n\x00\x01\xFF\x80)\x00\x08\x93/\xF9\xB1Q&;6\x00\x06\x00\x09e\
         vtj:h6vY   \x00\x08\x00\x14\x9A\xEA\xA7\x0C\xBF\xD8\xCBVx\x1E\xF2\xB5\xB2\xD3\xF2I\xC1\
         \xB5q\xA2\x80(\x00\x04\xE5z;\xCE";
     let name = b"fingerprint_changed";
-    read(name, d);
-    checked(name, b"_integrity", d, b"VOkJxbRl1RmTxUk/WvJxBt");
+    read(rt, name, d);
+    checked(rt, name, b"_integrity", d, b"VOkJxbRl1RmTxUk/WvJxBt");
 }
 
-fn no_integrity() {
+fn no_integrity(rt: HostRuntime) {
     checked(
+        rt,
         b"no_integrity",
         b"",
         b"\x00\x01\x00\x00!\x12\xA4B\x00\x01\x02\x03\x04\x05\x06\x07\x08\x09\x0A\x0B",
@@ -211,14 +226,15 @@ fn no_integrity() {
 }
 
 // A key, and another one.
-fn keyed(name: &[u8], d: &[u8], key: &[u8], other: &[u8]) {
-    checked(name, b"", d, key);
-    checked(name, b"_other", d, other);
+fn keyed(rt: HostRuntime, name: &[u8], d: &[u8], key: &[u8], other: &[u8]) {
+    checked(rt, name, b"", d, key);
+    checked(rt, name, b"_other", d, other);
 }
 
 // Keys of 0, 64 and 65 bytes, 0, 1, 2 and so on. The digests are those of Python's hmac.
-fn key_0() {
+fn key_0(rt: HostRuntime) {
     keyed(
+        rt,
         b"key_0",
         b"\x00\x01\x00\x18!\x12\xA4B\x00\x01\x02\x03\x04\x05\x06\x07\x08\x09\x0A\x0B\x00\x08\x00\
         \x14\x22,\xCE\xE8b<\xF3\x01\xE1\xD2\xF8\x9AE\x16&,\x0Fn\xB9~",
@@ -227,8 +243,9 @@ fn key_0() {
     );
 }
 
-fn key_64() {
+fn key_64(rt: HostRuntime) {
     keyed(
+        rt,
         b"key_64",
         b"\x00\x01\x00\x18!\x12\xA4B\x00\x01\x02\x03\x04\x05\x06\x07\x08\x09\x0A\x0B\x00\x08\x00\
         \x14$\x99\xF3^\x84F;o[\xA5\xEC\x1C:\xD8\x0A\x80\xCD\xDD\xE2\xEC",
@@ -239,8 +256,9 @@ fn key_64() {
     );
 }
 
-fn key_65() {
+fn key_65(rt: HostRuntime) {
     keyed(
+        rt,
         b"key_65",
         b"\x00\x01\x00\x18!\x12\xA4B\x00\x01\x02\x03\x04\x05\x06\x07\x08\x09\x0A\x0B\x00\x08\x00\
         \x14\x02\xA7\xD42\xEFBz\x0B59!\x7FNO\xEEwz\xBAt\xCE",
@@ -252,8 +270,9 @@ fn key_65() {
 }
 
 // MESSAGE-INTEGRITY twice: the first decides (docs/DIFFERENCES.md, 5.7).
-fn twice() {
+fn twice(rt: HostRuntime) {
     checked(
+        rt,
         b"twice_wrong_first",
         b"",
         b"\x00\x01\x00\x30\x21\x12\xA4\x42\x00\x00\x00\x00\x00\x00\x00\x00\x00\x00\x00\x00\x00\x08\
@@ -263,6 +282,7 @@ fn twice() {
         b"k",
     );
     checked(
+        rt,
         b"twice_right_first",
         b"",
         b"\x00\x01\x00\x30\x21\x12\xA4\x42\x00\x00\x00\x00\x00\x00\x00\x00\x00\x00\x00\x00\x00\x08\
@@ -273,84 +293,100 @@ fn twice() {
     );
 }
 
-fn error(section: &[u8], code: u16, phrase: &[u8]) {
-    name(section, b"");
-    number(code as usize);
-    put(b" ");
-    put(phrase);
-    put(b"\n");
+fn error(rt: HostRuntime, section: &[u8], code: u16, phrase: &[u8]) {
+    name(rt, section, b"");
+    number(rt, code as usize);
+    put(rt, b" ");
+    put(rt, phrase);
+    put(rt, b"\n");
 }
 
 // Behind a header of no attributes, in room for the longest of the values below.
-fn written_back(error: ErrorCode, phrase: &[u8]) {
+fn written_back(rt: HostRuntime, error: ErrorCode, phrase: &[u8]) {
     let mut buf = *b"\x01\x11\x00\x00!\x12\xA4B\x00\x01\x02\x03\x04\x05\x06\x07\x08\x09\x0A\x0B\
         ------------";
-    number(error.code as usize);
-    number(error.reserved as usize);
-    put(b" ");
+    number(rt, error.code as usize);
+    number(rt, error.reserved as usize);
+    put(rt, b" ");
     write_error_code::append_error_code(&mut buf, error, phrase);
-    hex(&buf[20..]);
-    put(b"\n");
+    hex(rt, &buf[20..]);
+    put(rt, b"\n");
 }
 
 // The code and the reserved number of a value, and the attribute that they are written as with its phrase.
-fn reserved(section: &[u8], value: &[u8]) {
-    name(section, b"");
+fn reserved(rt: HostRuntime, section: &[u8], value: &[u8]) {
+    name(rt, section, b"");
     let id = TransactionId { bytes: [0; 12] };
     let v = read_typed::value_of(ERROR_CODE, value, id).value;
     match v {
-        Value::Code(error) => written_back(error, read_typed::part_of(ERROR_CODE, value)),
-        _ => put(b" no code\n"),
+        Value::Code(error) => written_back(rt, error, read_typed::part_of(ERROR_CODE, value)),
+        _ => put(rt, b" no code\n"),
     }
 }
 
 // The reserved bits: none (P9), all (P9), and some, with a phrase.
-fn reserved_bits() {
-    reserved(b"reserved_none", b"\x00\x00\x06\x00");
-    reserved(b"reserved_all", b"\xFF\xFF\xFE\x00");
-    reserved(b"reserved_some", b"\x5A\xA5\x5C\x01why");
+fn reserved_bits(rt: HostRuntime) {
+    reserved(rt, b"reserved_none", b"\x00\x00\x06\x00");
+    reserved(rt, b"reserved_all", b"\xFF\xFF\xFE\x00");
+    reserved(rt, b"reserved_some", b"\x5A\xA5\x5C\x01why");
 }
 
 // The named error codes, and the method.
-fn redirected() {
-    error(b"error_300", TryAlternate::CODEPOINT, &TryAlternate::PHRASE);
-    error(b"error_400", BadRequest::CODEPOINT, &BadRequest::PHRASE);
+fn redirected(rt: HostRuntime) {
+    error(
+        rt,
+        b"error_300",
+        TryAlternate::CODEPOINT,
+        &TryAlternate::PHRASE,
+    );
+    error(rt, b"error_400", BadRequest::CODEPOINT, &BadRequest::PHRASE);
 }
 
-fn unauthorized() {
-    error(b"error_401", Unauthorized::CODEPOINT, &Unauthorized::PHRASE);
+fn unauthorized(rt: HostRuntime) {
     error(
+        rt,
+        b"error_401",
+        Unauthorized::CODEPOINT,
+        &Unauthorized::PHRASE,
+    );
+    error(
+        rt,
         b"error_420",
         UnknownAttribute::CODEPOINT,
         &UnknownAttribute::PHRASE,
     );
 }
 
-fn stale() {
-    error(b"error_438", StaleNonce::CODEPOINT, &StaleNonce::PHRASE);
-    error(b"error_500", ServerError::CODEPOINT, &ServerError::PHRASE);
+fn stale(rt: HostRuntime) {
+    error(rt, b"error_438", StaleNonce::CODEPOINT, &StaleNonce::PHRASE);
+    error(
+        rt,
+        b"error_500",
+        ServerError::CODEPOINT,
+        &ServerError::PHRASE,
+    );
 }
 
-fn binding() {
-    name(b"binding", b"");
-    number(BINDING.code as usize);
-    put(b"\n");
+fn binding(rt: HostRuntime) {
+    name(rt, b"binding", b"");
+    number(rt, BINDING.code as usize);
+    put(rt, b"\n");
 }
 
-pub fn run() {
-    request();
-    ipv4_response();
-    ipv6_response();
-    long_term_request();
-    changed();
-    no_integrity();
-    key_0();
-    key_64();
-    key_65();
-    twice();
-    redirected();
-    unauthorized();
-    stale();
-    reserved_bits();
-    binding();
+pub fn run(rt: HostRuntime) {
+    request(rt);
+    ipv4_response(rt);
+    ipv6_response(rt);
+    long_term_request(rt);
+    changed(rt);
+    no_integrity(rt);
+    key_0(rt);
+    key_64(rt);
+    key_65(rt);
+    twice(rt);
+    redirected(rt);
+    unauthorized(rt);
+    stale(rt);
+    reserved_bits(rt);
+    binding(rt);
 }

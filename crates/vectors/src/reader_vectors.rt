@@ -1,23 +1,23 @@
 // The reader: examples of docs/SCOPE.md and docs/DIFFERENCES.md, and what those pages say of each.
 ghost use Rattle.std.specs.Prelude.{◌<◌};
 
-use libc::STDOUT_FILENO;
+use crate::printing::{put, put_decimal};
 use read_message::Answer;
 
-fn number(n: u64) {
-    io::write_all(STDOUT_FILENO, b" ");
-    io::print_decimal(STDOUT_FILENO, n);
+fn number(rt: HostRuntime, n: u64) {
+    put(rt, b" ");
+    put_decimal(rt, n);
 }
 
-fn kind(name: &[u8], reason: u8, class: u16, method: u16) {
-    io::write_all(STDOUT_FILENO, name);
-    number(reason as u64);
-    number(class as u64);
-    number(method as u64);
+fn kind(rt: HostRuntime, name: &[u8], reason: u8, class: u16, method: u16) {
+    put(rt, name);
+    number(rt, reason as u64);
+    number(rt, class as u64);
+    number(rt, method as u64);
 }
 
 // Kind, number, class, method, count, place.
-fn told(d: &[u8]) {
+fn told(rt: HostRuntime, d: &[u8]) {
     let r = read_message::read(d);
     let answer = r.answer;
     match answer {
@@ -26,8 +26,8 @@ fn told(d: &[u8]) {
             method,
             count,
         } => {
-            kind(b" whole", 0, class.as_u16(), method.code);
-            ended(count, 0);
+            kind(rt, b" whole", 0, class.as_u16(), method.code);
+            ended(rt, count, 0);
         }
         Answer::Broken {
             class,
@@ -35,26 +35,26 @@ fn told(d: &[u8]) {
             reason,
             place,
         } => {
-            kind(b" broken", reason, class.as_u16(), method.code);
-            ended(0, place);
+            kind(rt, b" broken", reason, class.as_u16(), method.code);
+            ended(rt, 0, place);
         }
         Answer::Refused { number: n } => {
-            kind(b" refused", n, 0, 0);
-            ended(0, 0);
+            kind(rt, b" refused", n, 0, 0);
+            ended(rt, 0, 0);
         }
     }
 }
 
-fn ended(count: usize, place: usize) {
-    number(count as u64);
-    number(place as u64);
-    io::write_all(STDOUT_FILENO, b"\n");
+fn ended(rt: HostRuntime, count: usize, place: usize) {
+    number(rt, count as u64);
+    number(rt, place as u64);
+    put(rt, b"\n");
 }
 
-fn case(name: &[u8], d: &[u8]) {
-    io::write_all(STDOUT_FILENO, b"reader ");
-    io::write_all(STDOUT_FILENO, name);
-    told(d);
+fn case(rt: HostRuntime, name: &[u8], d: &[u8]) {
+    put(rt, b"reader ");
+    put(rt, name);
+    told(rt, d);
 }
 
 pub fn wide(b: u8) -> usize
@@ -64,7 +64,7 @@ pub fn wide(b: u8) -> usize
 }
 
 // Cases one after the other: the sizes of name and datagram in a byte each, the name, the datagram.
-fn each(s: &[u8]) {
+fn each(rt: HostRuntime, s: &[u8]) {
     let mut at = 0;
     while at < s.len() {
         if s.len() - at < 2 {
@@ -78,14 +78,15 @@ fn each(s: &[u8]) {
         }
         let middle = from + name;
         let end = middle + size;
-        case(&s[from..middle], &s[middle..end]);
+        case(rt, &s[from..middle], &s[middle..end]);
         at = end;
     }
 }
 
 // The sheet's P7, REALM at its limit, and FINGERPRINT twice or not last.
-fn values() {
+fn values(rt: HostRuntime) {
     each(
+        rt,
         b"\x02\x20P7\x01\x01\x00\x0C\x21\x12\xA4B\x00\x01\x02\x03\x04\x05\x06\x07\x08\x09\x0A\x0B\x00\x20\x00\x08\
         \x00\x01\xA1G\xE1\x12\xA6C\
         \x09\x98realm_127\x01\x11\x00\x84\x21\x12\xA4B\x00\x00\x00\x00\x00\x00\x00\x00\x00\x00\x00\x00\x00\x14\
@@ -102,8 +103,9 @@ fn values() {
 }
 
 // Where the Rust or RFC 5389 answers otherwise: sections 1, 2 and 5 of docs/DIFFERENCES.md.
-fn differs() {
+fn differs(rt: HostRuntime) {
     each(
+        rt,
         b"\x03\x1C1.2\x01\x11\x00\x08\x21\x12\xA4B\x00\x00\x00\x00\x00\x00\x00\x00\x00\x00\x00\x00\x00\x09\x00\x04\
         \x00\x00\x06\x00\
         \x0A\x1C1.4_method\x00\x20\x00\x08\x21\x12\xA4B\x00\x00\x00\x00\x00\x00\x00\x00\x00\x00\x00\x00\x80\x28\
@@ -129,7 +131,7 @@ fn differs() {
 }
 
 // A datagram of so many bytes: its front, zeros, and what it ends in.
-fn long(name: &[u8], size: usize, front: &[u8], end: &[u8]) {
+fn long(rt: HostRuntime, name: &[u8], size: usize, front: &[u8], end: &[u8]) {
     let mut d = [0u8; 65552];
     if d.len() < size {
         return;
@@ -139,12 +141,13 @@ fn long(name: &[u8], size: usize, front: &[u8], end: &[u8]) {
     }
     buffers::put_bytes(&mut d, 0, front);
     buffers::put_bytes(&mut d, size - end.len(), end);
-    case(name, &d[0..size]);
+    case(rt, name, &d[0..size]);
 }
 
 // FINGERPRINT behind 65,536 bytes, section 1.5 of that page, and behind 65,544, as far back as one can start: right and wrong.
-fn far() {
+fn far(rt: HostRuntime) {
     long(
+        rt,
         b"1.5",
         65544,
         b"\x00\x01\xFF\xF4\x21\x12\xA4B\x00\x00\x00\x00\x00\x00\x00\x00\x00\x00\x00\x00\xC0\x01\xFF\xE8",
@@ -153,12 +156,14 @@ fn far() {
     let front: &[u8] =
         b"\x00\x01\xFF\xFC\x21\x12\xA4B\x00\x00\x00\x00\x00\x00\x00\x00\x00\x00\x00\x00\xC0\x01\xFF\xF0";
     long(
+        rt,
         b"fingerprint_farthest",
         65552,
         front,
         b"\x80\x28\x00\x04M\xE7\x5E\xBC",
     );
     long(
+        rt,
         b"fingerprint_farthest_wrong",
         65552,
         front,
@@ -167,8 +172,9 @@ fn far() {
 }
 
 // Its section 7.
-fn cut() {
+fn cut(rt: HostRuntime) {
     each(
+        rt,
         b"\x03\x137.1\x00\x01\x00\x00\x21\x12\xA4B\x00\x00\x00\x00\x00\x00\x00\x00\x00\x00\x00\
         \x03\x147.2\x00\x01\x00\x04\x21\x12\xA4B\x00\x00\x00\x00\x00\x00\x00\x00\x00\x00\x00\x00\
         \x03\x157.3\x00\x01\x00\x00\x21\x12\xA4B\x00\x00\x00\x00\x00\x00\x00\x00\x00\x00\x00\x00\x00\
@@ -194,8 +200,9 @@ fn cut() {
 }
 
 // Values below and above their size: 7.14 to 7.17.
-fn sizes() {
+fn sizes(rt: HostRuntime) {
     each(
+        rt,
         b"\x04\x187.14\x00\x01\x00\x04\x21\x12\xA4\x42\x00\x00\x00\x00\x00\x00\x00\x00\x00\x00\x00\x00\x00\x08\x00\
         \x00\
         \x04\x187.15\x00\x01\x00\x04\x21\x12\xA4\x42\x00\x00\x00\x00\x00\x00\x00\x00\x00\x00\x00\x00\x80\x28\x00\
@@ -208,8 +215,9 @@ fn sizes() {
 }
 
 // Its section 8.
-fn rfc() {
+fn rfc(rt: HostRuntime) {
     each(
+        rt,
         b"\x0A\x308.1_behind\x00\x01\x00\x1C\x21\x12\xA4B\x00\x00\x00\x00\x00\x00\x00\x00\x00\x00\x00\x00\x00\x08\
         \x00\x14\xA7c0U\xF1\x9EJw\xA9\xF1\x88q\xA19\xE7\xE5\xAF\xC8\x80i\x00\x14\x00\x00\
         \x0A\x308.1_judged\x00\x01\x00\x1C\x21\x12\xA4B\x00\x00\x00\x00\x00\x00\x00\x00\x00\x00\x00\x00\x00\x08\
@@ -227,11 +235,11 @@ fn rfc() {
     );
 }
 
-pub fn run() {
-    values();
-    differs();
-    far();
-    cut();
-    sizes();
-    rfc();
+pub fn run(rt: HostRuntime) {
+    values(rt);
+    differs(rt);
+    far(rt);
+    cut(rt);
+    sizes(rt);
+    rfc(rt);
 }

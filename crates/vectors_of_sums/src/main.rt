@@ -3,11 +3,12 @@
 #![tactic(auto)]
 
 mod crc32_vectors;
+mod printing;
 mod sha_vectors;
 mod utf8_vectors;
 
-fn main() {
-    crc32_vectors::run();
-    utf8_vectors::run();
-    sha_vectors::run();
+fn main(rt: HostRuntime) {
+    crc32_vectors::run(rt);
+    utf8_vectors::run(rt);
+    sha_vectors::run(rt);
 }

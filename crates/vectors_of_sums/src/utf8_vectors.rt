@@ -1,11 +1,11 @@
 // UTF-8: RFC 3629's own examples, the ends of every range of its grammar, sequences cut short, a long text, and a wrong byte at each place.
-use libc::STDOUT_FILENO;
+use crate::printing::{put, put_hex};
 
-fn answer(yes: bool) {
+fn answer(rt: HostRuntime, yes: bool) {
     if yes {
-        io::write_all(STDOUT_FILENO, b" yes\n");
+        put(rt, b" yes\n");
     } else {
-        io::write_all(STDOUT_FILENO, b" no\n");
+        put(rt, b" no\n");
     }
 }
 
@@ -13,49 +13,50 @@ fn wide(b: u8) -> usize {
     b as usize
 }
 
-fn hex(s: &[u8]) {
+fn hex(rt: HostRuntime, s: &[u8]) {
     let mut i = 0;
     while i < s.len() {
-        io::print_hex(STDOUT_FILENO, wide(s[i]) as u64, 2);
+        put_hex(rt, wide(s[i]) as u64, 2);
         i += 1;
     }
 }
 
 // The bytes in hex are the name.
-fn check(s: &[u8]) {
-    io::write_all(STDOUT_FILENO, b"utf8 ");
-    hex(s);
-    answer(utf8::is_utf8(s));
+fn check(rt: HostRuntime, s: &[u8]) {
+    put(rt, b"utf8 ");
+    hex(rt, s);
+    answer(rt, utf8::is_utf8(s));
 }
 
 // Whether the bytes are UTF-8, and how many code points they have.
-fn text(name: &[u8], s: &[u8]) {
-    io::write_all(STDOUT_FILENO, b"utf8 ");
-    io::write_all(STDOUT_FILENO, name);
-    answer(utf8::is_utf8(s));
-    io::write_all(STDOUT_FILENO, b"utf8 ");
-    io::write_all(STDOUT_FILENO, name);
-    io::write_all(STDOUT_FILENO, b"_points ");
-    io::print_hex(STDOUT_FILENO, utf8::points::code_points(s) as u64, 1);
-    io::write_all(STDOUT_FILENO, b"\n");
+fn text(rt: HostRuntime, name: &[u8], s: &[u8]) {
+    put(rt, b"utf8 ");
+    put(rt, name);
+    answer(rt, utf8::is_utf8(s));
+    put(rt, b"utf8 ");
+    put(rt, name);
+    put(rt, b"_points ");
+    put_hex(rt, utf8::points::code_points(s) as u64, 1);
+    put(rt, b"\n");
 }
 
 // Byte strings one after the other, each behind its size.
-fn each(s: &[u8]) {
+fn each(rt: HostRuntime, s: &[u8]) {
     let mut at = 0;
     while at < s.len() {
         let size = wide(s[at]);
         if s.len() - at <= size {
             return;
         }
-        check(&s[at + 1..at + 1 + size]);
+        check(rt, &s[at + 1..at + 1 + size]);
         at += 1 + size;
     }
 }
 
 // The ends of each range of the grammar, and the bytes beside them.
-fn ends() {
+fn ends(rt: HostRuntime) {
     each(
+        rt,
         b"\x01\x00\x01\x7F\x01\x80\x01\xBF\x02\xC0\x80\x02\xC1\xBF\x02\xC2\x80\x02\xDF\xBF\x03\xE0\x9F\xBF\
         \x03\xE0\xA0\x80\x03\xE0\xBF\xBF\x03\xE1\x80\x80\x03\xEC\xBF\xBF\x03\xED\x80\x80\x03\xED\x9F\xBF\
         \x03\xED\xA0\x80\x03\xED\xBF\xBF\x03\xEE\x80\x80\x03\xEF\xBF\xBF\x04\xF0\x8F\xBF\xBF\
@@ -66,8 +67,9 @@ fn ends() {
 }
 
 // A byte beside UTF8-tail at each place behind the first.
-fn beside() {
+fn beside(rt: HostRuntime) {
     each(
+        rt,
         b"\x02\xC2\x7F\x02\xC2\xC0\x03\xE1\x80\x7F\x03\xE1\x80\xC0\x03\xE1\x7F\x80\x03\xE1\xC0\x80\
         \x04\xF1\x80\x80\x7F\x04\xF1\x80\x80\xC0\x04\xF1\x80\x7F\x80\x04\xF1\x80\xC0\x80\
         \x04\xF1\x7F\x80\x80\x04\xF1\xC0\x80\x80",
@@ -75,8 +77,9 @@ fn beside() {
 }
 
 // Each width cut short at each byte, at the end and before another character.
-fn cut() {
+fn cut(rt: HostRuntime) {
     each(
+        rt,
         b"\x01\xC2\x01\xE0\x02\xE0\xA0\x01\xE1\x02\xE1\x80\x01\xED\x02\xED\x9F\x01\xEE\x02\xEE\x80\x01\xF0\
         \x02\xF0\x90\x03\xF0\x90\x80\x01\xF1\x02\xF1\x80\x03\xF1\x80\x80\x01\xF4\x02\xF4\x8F\
         \x03\xF4\x8F\xBF\x02\xC2\x41\x03\xE1\x80\x41\x04\xF1\x80\x80\x41\x05\xE1\x80\xE1\x80\x80",
@@ -84,8 +87,9 @@ fn cut() {
 }
 
 // Greek, English, Korean, Japanese, Russian, German, characters of four bytes, and the ends of the ranges.
-fn long() {
+fn long(rt: HostRuntime) {
     text(
+        rt,
         b"long",
         b"\xCE\x8C\xCF\x80\xCE\xBF\xCE\xB9\xCE\xBF\xCF\x82 \xCE\xB5\xCE\xBB\xCE\xB5\xCF\x8D\xCE\xB8\xCE\xB5\
         \xCF\x81\xCE\xB1 \xCF\x83\xCF\x85\xCE\xBB\xCE\xBB\xCE\xBF\xCE\xB3\xCE\xAC\xCF\x84\xCE\xB1\xCE\xB9, \
@@ -104,25 +108,25 @@ fn long() {
 }
 
 // Forty bytes of ASCII, which are passed over several at a step, and the same with FF at each place.
-fn steps() {
+fn steps(rt: HostRuntime) {
     let mut s = [b'a'; 40];
-    check(&s);
+    check(rt, &s);
     for i in 0..40 {
         s[i] = 0xFF;
-        check(&s);
+        check(rt, &s);
         s[i] = b'a';
     }
 }
 
-pub fn run() {
+pub fn run(rt: HostRuntime) {
     // section 7
-    text(b"not_identical", b"A\xE2\x89\xA2\xCE\x91.");
-    text(b"hangugeo", b"\xED\x95\x9C\xEA\xB5\xAD\xEC\x96\xB4");
-    text(b"nihongo", b"\xE6\x97\xA5\xE6\x9C\xAC\xE8\xAA\x9E");
-    text(b"stump", b"\xEF\xBB\xBF\xF0\xA3\x8E\xB4");
-    long();
-    ends();
-    beside();
-    cut();
-    steps();
+    text(rt, b"not_identical", b"A\xE2\x89\xA2\xCE\x91.");
+    text(rt, b"hangugeo", b"\xED\x95\x9C\xEA\xB5\xAD\xEC\x96\xB4");
+    text(rt, b"nihongo", b"\xE6\x97\xA5\xE6\x9C\xAC\xE8\xAA\x9E");
+    text(rt, b"stump", b"\xEF\xBB\xBF\xF0\xA3\x8E\xB4");
+    long(rt);
+    ends(rt);
+    beside(rt);
+    cut(rt);
+    steps(rt);
 }
