@@ -5,7 +5,7 @@ use mathlib.Core.Path.{◌≡◌, refl, sym, ap, ap₂, ◌∙◌, subst}
 use native.Mathlib.Omega.{arith}
 use lib.ListN.{length, get_or, take, drop, length-take, length-drop}
 use lib.Bits.{bit_xor, xor_lt}
-use Rattle.big_endian.specs.Numbers.{two, with_length}
+use Rattle.big_endian.specs.Numbers.{with_length}
 use Rattle.big_endian.specs.NumbersLaws.{four_at}
 use Rattle.crc.specs.Crc.{bit_step, bit_steps, bytes_from, finished}
 use Rattle.crc.specs.Octets.{octets, word, times}

@@ -21,7 +21,7 @@ use Rattle.registry.specs.declared.ErrorCode.{ErrorCode}
 use Rattle.registry.specs.declared.Entry.{Entry}
 use Rattle.registry.specs.declared.Rule.{Rule}
 use Rattle.registry.specs.declared.Rule.TheVariants as rule
-use Rattle.read_typed.specs.declared.Value.TheVariants.{Address, Code, Plain, Refused}
+use Rattle.read_typed.specs.declared.Value.TheVariants.{Code, Plain, Refused}
 use Rattle.read_typed.specs.declared.Typed.{Typed}
 use Rattle.read_typed.specs.Typed.{family_numbered, ip_of, address_of, without, said_by, read_of, typed_of}
 

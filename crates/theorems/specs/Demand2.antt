@@ -9,7 +9,7 @@
 --   reserved bits dropped, or displaced       `code_written_back`; displaced on both sides alike: P9 of Sheet.antt
 --   an append that refuses every error code   `code_taken`, and `code_written_back`
 --   a constant fingerprint                    `stretch` of Stretch.antt, which it makes false
-use Rattle.std.specs.Prelude.{ℕ, ◌+◌, ◌≤◌, ◌<◌, List, [], ◌∷◌, ◌++◌, true, ◌≡◌, refl, length, take, drop}
+use Rattle.std.specs.Prelude.{ℕ, ◌≤◌, ◌<◌, List, [], ◌∷◌, ◌++◌, true, ◌≡◌, refl, length, take, drop}
 use Rattle.std.proofs.Common.{ap, ◌∙◌, arith}
 use Rattle.base.specs.Bytes.{Bytes}
 use Rattle.utf8_spec.specs.Utf8.{is_utf8}

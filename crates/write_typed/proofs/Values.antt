@@ -7,12 +7,11 @@ use borrow.Author.Tests.{eq-eqb, ne_eqb}
 use lib.ListN.{length, take, drop, replicate}
 use Rattle.base.specs.Choice.{pick}
 use Rattle.attribute.specs.Attribute.{padded}
-use Rattle.registry.specs.Rows.{rule_number, look, rule_in, rfc5389}
+use Rattle.registry.specs.Rows.{look, rule_in, rfc5389}
 use Rattle.registry.specs.Fault.{fault}
 use Rattle.registry.specs.declared.Rule.{Rule}
 use Rattle.registry.specs.declared.Rule.TheVariants.{Text}
 use Rattle.registry.specs.declared.Entry.{Entry}
-use Rattle.registry.specs.contracts.Rule.{enum}
 use Rattle.write_begin.specs.declared.Written.{Written}
 use Rattle.write_raw.specs.Append.{attr, answer, appended}
 use Rattle.write_typed.specs.Typed.{typed, refusal, is_rule, text_refusal}

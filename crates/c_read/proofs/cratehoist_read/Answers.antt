@@ -1,6 +1,5 @@
 use Rattle.read_message.specs.SaidLaws.{reading_one}
 use Rattle.c_read.proofs.Sayings.{whole, broken, refused}
-use borrow.Author.Rules.{rules}
 use Rattle.c_read.proofs.cratehoist_read.Goals as goal
 
 pub returns-in-Whole : goal.returns-in-Whole

@@ -1,6 +1,5 @@
 use Rattle.base.specs.ThroughLaws.{through}
 use Rattle.c_read.specs.Reading.{step_out}
-use borrow.Author.Rules.{rules}
 use Rattle.c_read.proofs.cratehoist_walk.Goals as goal
 
 pub returns : goal.returns

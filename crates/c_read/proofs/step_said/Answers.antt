@@ -1,5 +1,4 @@
 use Rattle.c_read.proofs.Sayings.{attribute, end, cut}
-use borrow.Author.Rules.{rules}
 use Rattle.c_read.proofs.step_said.Goals as goal
 
 pub returns-in-Attribute : goal.returns-in-Attribute

@@ -1,6 +1,5 @@
 use Rattle.write_begin.specs.SaidLaws.{written_one}
 use Rattle.c_typed.proofs.Addresses.{tells, keeps, tells_none, keeps_none}
-use borrow.Author.Rules.{rules}
 use Rattle.c_typed.proofs.cratehoist_append_address.Goals as goal
 
 pub returns-then-family-eq1 : goal.returns-then-family-eq1

@@ -1,6 +1,5 @@
 use Rattle.read_typed.specs.SaidLaws.{typed_one}
 use Rattle.c_typed.proofs.Sayings.{address, code, plain, faulty}
-use borrow.Author.Rules.{rules}
 use Rattle.c_typed.proofs.cratehoist_typed_value.Goals as goal
 
 pub returns-in-Address : goal.returns-in-Address

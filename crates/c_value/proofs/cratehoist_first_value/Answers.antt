@@ -1,7 +1,6 @@
 use native.Mathlib.Omega.{arith}
 use Rattle.read_first.specs.SaidLaws.{first_one}
 use Rattle.c_value.proofs.Sayings.{room, part, no_part}
-use borrow.Author.Rules.{rules}
 use Rattle.c_value.proofs.cratehoist_first_value.Goals as goal
 
 pub returns-in-Found : goal.returns-in-Found

@@ -1,6 +1,5 @@
 use Rattle.base.specs.ThroughLaws.{through}
 use Rattle.c_value.specs.Part.{first_out}
-use borrow.Author.Rules.{rules}
 use Rattle.c_value.proofs.cratehoist_search.Goals as goal
 
 pub returns : goal.returns

@@ -1,5 +1,4 @@
 use Rattle.c_value.proofs.Sayings.{one, no_one}
-use borrow.Author.Rules.{rules}
 use Rattle.c_value.proofs.first_said.Goals as goal
 
 pub returns-in-Found : goal.returns-in-Found

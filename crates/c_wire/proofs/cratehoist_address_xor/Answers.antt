@@ -1,5 +1,4 @@
 use Rattle.c_wire.proofs.Sayings.{form_4, form_6, form_none}
-use borrow.Author.Rules.{rules}
 use Rattle.c_wire.proofs.cratehoist_address_xor.Goals as goal
 
 pub returns-then-address-eq1 : goal.returns-then-address-eq1

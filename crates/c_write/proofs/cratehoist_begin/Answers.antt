@@ -1,6 +1,5 @@
 use Rattle.write_begin.specs.SaidLaws.{written_one}
 use Rattle.c_write.proofs.Sayings.{no_class, kept, begins, leaves}
-use borrow.Author.Rules.{rules}
 use Rattle.c_write.proofs.cratehoist_begin.Goals as goal
 
 pub returns-then-message_class-gt3 : goal.returns-then-message_class-gt3

@@ -1,6 +1,5 @@
 use Rattle.write_begin.specs.SaidLaws.{written_one}
 use Rattle.c_write.proofs.Sayings.{total, refused}
-use borrow.Author.Rules.{rules}
 use Rattle.c_write.proofs.in_numbers.Goals as goal
 
 pub returns-in-Total : goal.returns-in-Total

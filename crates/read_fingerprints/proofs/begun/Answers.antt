@@ -1,5 +1,4 @@
 use Rattle.read_fingerprints.proofs.Runs.{begun_is}
-use borrow.Author.Rules.{rules}
 use Rattle.read_fingerprints.proofs.begun.Goals as goal
 
 pub returns : goal.returns

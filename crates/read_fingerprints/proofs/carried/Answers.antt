@@ -1,5 +1,4 @@
 use Rattle.read_fingerprints.proofs.Runs.{carried_is}
-use borrow.Author.Rules.{rules}
 use Rattle.read_fingerprints.proofs.carried.Goals as goal
 
 pub returns : goal.returns

@@ -1,6 +1,5 @@
 use native.Mathlib.Omega.{arith}
 use Rattle.read_fingerprints.proofs.Faults.{is_there_lem, not_there}
-use borrow.Author.Rules.{rules}
 use Rattle.read_fingerprints.proofs.is_there.Goals as goal
 
 pub returns-then-u32_at-x : goal.returns-then-u32_at-x

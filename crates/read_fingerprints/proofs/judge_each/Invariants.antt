@@ -1,15 +1,8 @@
 use Prim.Native.Nat.{◌-◌}
-use mathlib.Core.Path.{refl}
 use lib.ListN.{length}
-use Rattle.attribute.proofs.ScanLaws.{passed, cut, less}
 use Rattle.attribute.specs.Scanning.{Scanning}
-use Rattle.attribute.specs.SaidLaws.{walk_one}
-use Rattle.attribute.proofs.Stops.{stops}
 use Rattle.read_fingerprints.specs.Fingerprints.{print_faults, on_from}
 use Rattle.read_fingerprints.specs.Running.{Ran}
-use Rattle.read_fingerprints.proofs.Runs.{unbegun}
-use Rattle.read_fingerprints.proofs.Scans.{start, print_room, print_on, print_decides, ran_on}
-use borrow.Author.Rules.{rules}
 use Rattle.read_fingerprints.proofs.judge_each.Given as goal
 
 abbrev pub invariant-loop-kind : goal.invariant-loop-kind

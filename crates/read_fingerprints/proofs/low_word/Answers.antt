@@ -1,5 +1,4 @@
 use Rattle.read_fingerprints.proofs.Runs.{word_is}
-use borrow.Author.Rules.{rules}
 use Rattle.read_fingerprints.proofs.low_word.Goals as goal
 
 pub returns : goal.returns

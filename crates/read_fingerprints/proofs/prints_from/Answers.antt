@@ -2,7 +2,6 @@ use mathlib.Core.Path.{ap}
 use Rattle.attribute.specs.Scan.{scan_said}
 use Rattle.read_fingerprints.specs.FingerprintsLaws.{reaches}
 use Rattle.read_fingerprints.proofs.Scans.{none_is}
-use borrow.Author.Rules.{rules}
 use Rattle.read_fingerprints.proofs.prints_from.Goals as goal
 
 pub returns-then-d-lt20 : goal.returns-then-d-lt20

@@ -1,5 +1,4 @@
 use Rattle.read_fingerprints.proofs.Runs.{register_for_is}
-use borrow.Author.Rules.{rules}
 use Rattle.read_fingerprints.proofs.register_for.Goals as goal
 
 pub returns : goal.returns

@@ -1,5 +1,4 @@
 use Rattle.read_fingerprints.proofs.Runs.{relength_is}
-use borrow.Author.Rules.{rules}
 use Rattle.read_fingerprints.proofs.relength.Goals as goal
 
 pub returns : goal.returns

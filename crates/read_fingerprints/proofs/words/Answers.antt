@@ -1,5 +1,4 @@
-use Prim.Native.Nat.{◌-◌}
-use Rattle.read_fingerprints.proofs.Runs.{Worded, worded_start, worded_turn, worded_done}
+use Rattle.read_fingerprints.proofs.Runs.{worded_start, worded_turn, worded_done}
 use borrow.Author.Rules.{rules}
 use Rattle.read_fingerprints.proofs.words.Goals as goal
 

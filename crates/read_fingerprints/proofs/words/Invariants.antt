@@ -1,6 +1,5 @@
 use Prim.Native.Nat.{◌-◌}
-use Rattle.read_fingerprints.proofs.Runs.{Worded, worded_start, worded_turn, worded_done}
-use borrow.Author.Rules.{rules}
+use Rattle.read_fingerprints.proofs.Runs.{Worded}
 use Rattle.read_fingerprints.proofs.words.Given as goal
 
 abbrev pub invariant-loop-at : goal.invariant-loop-at

@@ -3,7 +3,6 @@ use Rattle.read_message.specs.SaidLaws.{reading_one}
 use Rattle.read_first.specs.First.{first_said}
 use Rattle.read_first.specs.SaidLaws.{first_one}
 use Rattle.read_first.proofs.Finding.{whole, broken, refused}
-use borrow.Author.Rules.{rules}
 use Rattle.read_first.proofs.find.Goals as goal
 
 pub returns-in-Whole : goal.returns-in-Whole

@@ -2,7 +2,6 @@ use native.Mathlib.Omega.{arith}
 use Rattle.registry.specs.Rows.{rfc5389}
 use Rattle.read_first.specs.SaidLaws.{first_one}
 use Rattle.read_first.proofs.FirstLaws.{room, nothing, nothing_at, value, value_at_lem}
-use borrow.Author.Rules.{rules}
 use Rattle.read_first.proofs.first_value.Goals as goal
 
 pub returns-in-Absent : goal.returns-in-Absent

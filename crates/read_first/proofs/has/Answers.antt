@@ -1,6 +1,5 @@
 use Rattle.read_first.specs.SaidLaws.{first_one}
 use Rattle.read_first.proofs.Finding.{has_none, has_one}
-use borrow.Author.Rules.{rules}
 use Rattle.read_first.proofs.has.Goals as goal
 
 pub returns-in-Absent : goal.returns-in-Absent

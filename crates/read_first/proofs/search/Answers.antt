@@ -1,11 +1,8 @@
-use Prim.Native.Nat.{◌-◌}
 use mathlib.Core.Path.{ap}
-use lib.ListN.{length}
 use Rattle.attribute.specs.SaidLaws.{walk_one}
 use Rattle.attribute.proofs.Stops.{stops}
 use Rattle.read_first.specs.First.{first_said}
-use Rattle.read_first.proofs.Searching.{Searching, start, less, turn, found, none_left}
-use borrow.Author.Rules.{rules}
+use Rattle.read_first.proofs.Searching.{start, less, turn, found, none_left}
 use Rattle.read_first.proofs.search.Goals as goal
 
 pub loop-k-init : goal.loop-k-init

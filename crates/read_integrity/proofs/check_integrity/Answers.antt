@@ -2,7 +2,6 @@ use native.Mathlib.Omega.{arith}
 use Rattle.read_message.specs.SaidLaws.{reading_one}
 use Rattle.read_first.specs.SaidLaws.{first_one}
 use Rattle.read_integrity.proofs.Checking.{refused, broken, missing, compares, low, room, fits}
-use borrow.Author.Rules.{rules}
 use Rattle.read_integrity.proofs.check_integrity.Goals as goal
 
 pub compare-requires : goal.compare-requires

@@ -1,5 +1,4 @@
 use Rattle.read_integrity.proofs.Checking.{right, wrong}
-use borrow.Author.Rules.{rules}
 use Rattle.read_integrity.proofs.compare.Goals as goal
 
 pub returns-then-same_digest : goal.returns-then-same_digest

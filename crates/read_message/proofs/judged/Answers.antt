@@ -1,6 +1,5 @@
 use Rattle.attribute.specs.SaidLaws.{scan_one}
 use Rattle.read_message.proofs.Answers.{first, second}
-use borrow.Author.Rules.{rules}
 use Rattle.read_message.proofs.judged.Goals as goal
 
 pub returns-in-Fault : goal.returns-in-Fault

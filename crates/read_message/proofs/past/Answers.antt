@@ -1,5 +1,4 @@
 use Rattle.read_message.proofs.Fronts.{elsewhere, stays, goes_on}
-use borrow.Author.Rules.{rules}
 use Rattle.read_message.proofs.past.Goals as goal
 
 pub returns-then-front-at : goal.returns-then-front-at

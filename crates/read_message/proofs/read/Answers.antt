@@ -2,7 +2,6 @@ use mathlib.Core.Path.{ap}
 use Rattle.header.specs.SaidLaws.{header_one}
 use Rattle.read_message.specs.Reading.{reading_said}
 use Rattle.read_message.proofs.Answers.{read-long, read-refused, read_whole, read-broken}
-use borrow.Author.Rules.{rules}
 use Rattle.read_message.proofs.read.Goals as goal
 
 pub judged-s-requires : goal.judged-s-requires

@@ -1,14 +1,7 @@
-use Prim.Native.Nat.{◌-◌}
 use native.Mathlib.Omega.{arith}
-use lib.ListN.{length}
-use Rattle.attribute.specs.Scan.{scanned}
 use Rattle.attribute.proofs.ScanLaws.{start, passed, cut, within, less}
-use Rattle.attribute.specs.Scanning.{Scanning}
 use Rattle.attribute.specs.SaidLaws.{walk_one}
 use Rattle.attribute.proofs.Stops.{stops}
-use Rattle.registry.specs.Rows.{rfc5389}
-use Rattle.read_fingerprints.specs.Fingerprints.{print_faults}
-use Rattle.read_message.specs.Reading.{value_faults}
 use Rattle.read_message.proofs.Fronts.{onward, front_turn}
 use Rattle.read_message.proofs.Scans.{value_on, value_decides}
 use borrow.Author.Rules.{rules}

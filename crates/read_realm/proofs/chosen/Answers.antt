@@ -3,7 +3,6 @@ use Rattle.registry.specs.Rows.{rfc5389}
 use Rattle.read_first.specs.SaidLaws.{first_one}
 use Rattle.read_first.proofs.FirstLaws.{room}
 use Rattle.read_realm.proofs.Choosing.{configured, configured_at, own, own_at}
-use borrow.Author.Rules.{rules}
 use Rattle.read_realm.proofs.chosen.Goals as goal
 
 pub returns-in-Absent : goal.returns-in-Absent

@@ -1,5 +1,4 @@
 use Rattle.read_typed.proofs.Fields.{fields}
-use borrow.Author.Rules.{rules}
 use Rattle.read_typed.proofs.address.Goals as goal
 
 pub returns : goal.returns

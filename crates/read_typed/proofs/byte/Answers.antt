@@ -1,5 +1,4 @@
 use Rattle.read_typed.proofs.Fields.{no_byte}
-use borrow.Author.Rules.{rules}
 use Rattle.read_typed.proofs.byte.Goals as goal
 
 pub returns-then-v-i : goal.returns-then-v-i

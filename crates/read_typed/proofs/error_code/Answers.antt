@@ -1,5 +1,4 @@
 use Rattle.read_typed.proofs.Fields.{code_fields}
-use borrow.Author.Rules.{rules}
 use Rattle.read_typed.proofs.error_code.Goals as goal
 
 pub returns : goal.returns

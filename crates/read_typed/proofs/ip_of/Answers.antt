@@ -1,5 +1,4 @@
 use Rattle.read_typed.proofs.Fields.{no_ip, ip}
-use borrow.Author.Rules.{rules}
 use Rattle.read_typed.proofs.ip_of.Goals as goal
 
 pub returns-then-v-lt4 : goal.returns-then-v-lt4

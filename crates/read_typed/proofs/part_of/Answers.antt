@@ -3,7 +3,6 @@ use native.Mathlib.Omega.{arith}
 use lib.ListN.{length}
 use Rattle.registry.specs.SaidLaws.{entry_one, rule_one}
 use Rattle.read_typed.proofs.Parts.{room, faulty, faulty_at, address, address_at, xor_address, xor_address_at, phrase, phrase_at, text, text_at, types, types_at, plain, plain_at}
-use borrow.Author.Rules.{rules}
 use Rattle.read_typed.proofs.part_of.Goals as goal
 
 pub returns-then-entry_fault-ne0 : goal.returns-then-entry_fault-ne0

@@ -2,7 +2,6 @@ use mathlib.Core.Path.{ap}
 use Rattle.registry.specs.SaidLaws.{entry_one, rule_one}
 use Rattle.read_typed.specs.Typed.{typed_said}
 use Rattle.read_typed.proofs.Fields.{faulty, address, xor_address, code, text, types, plain}
-use borrow.Author.Rules.{rules}
 use Rattle.read_typed.proofs.value_of.Goals as goal
 
 pub returns-then-number-ne0 : goal.returns-then-number-ne0

@@ -1,5 +1,4 @@
 use Rattle.registry.proofs.Faults.{address_4, address_4_other, address_16, address_16_other, address_size}
-use borrow.Author.Rules.{rules}
 use Rattle.registry.proofs.address_fault.Goals as goal
 
 pub returns-then-value-eq1 : goal.returns-then-value-eq1

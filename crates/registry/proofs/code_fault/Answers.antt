@@ -1,5 +1,4 @@
 use Rattle.registry.proofs.Faults.{code_size, code_low, code_high, code_number, code_good, code_text}
-use borrow.Author.Rules.{rules}
 use Rattle.registry.proofs.code_fault.Goals as goal
 
 pub returns-then-value-lt4 : goal.returns-then-value-lt4

@@ -1,5 +1,4 @@
 use Rattle.registry.proofs.Faults.{unknown, too_short, too_long, by_rule}
-use borrow.Author.Rules.{rules}
 use Rattle.registry.proofs.entry_fault.Goals as goal
 
 pub returns-then-value-least : goal.returns-then-value-least

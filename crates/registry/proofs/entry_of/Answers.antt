@@ -1,9 +1,6 @@
-use Prim.Native.Nat.{◌-◌}
-use lib.ListN.{length}
 use mathlib.Core.Path.{ap}
-use Rattle.registry.specs.Rows.{entry_said, rfc5389}
-use Rattle.registry.proofs.Looking.{Looking, start, turn, found, done}
-use borrow.Author.Rules.{rules}
+use Rattle.registry.specs.Rows.{entry_said}
+use Rattle.registry.proofs.Looking.{start, turn, found, done}
 use Rattle.registry.proofs.entry_of.Goals as goal
 
 pub loop-i-init : goal.loop-i-init

@@ -1,7 +1,6 @@
 use mathlib.Core.Path.{ap}
 use Rattle.registry.specs.Rows.{rule_number}
 use Rattle.registry.proofs.Faults.{no_rule, its_rule}
-use borrow.Author.Rules.{rules}
 use Rattle.registry.proofs.entry_rule.Goals as goal
 
 pub returns-in-Unknown : goal.returns-in-Unknown

@@ -1,6 +1,5 @@
 use Rattle.registry.specs.SaidLaws.{entry_one}
 use Rattle.registry.proofs.Faults.{by_kind}
-use borrow.Author.Rules.{rules}
 use Rattle.registry.proofs.fault.Goals as goal
 
 pub returns : goal.returns

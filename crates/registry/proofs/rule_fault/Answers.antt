@@ -1,5 +1,4 @@
 use Rattle.registry.proofs.Faults.{rule_plain, rule_address, rule_xor, rule_code, rule_even, rule_odd, rule_text, rule_no_text}
-use borrow.Author.Rules.{rules}
 use Rattle.registry.proofs.rule_fault.Goals as goal
 
 pub returns-then-value-eq0 : goal.returns-then-value-eq0

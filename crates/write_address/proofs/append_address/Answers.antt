@@ -3,10 +3,7 @@ use Rattle.write_begin.specs.Begin.{written_said}
 use Rattle.write_begin.specs.SaidLaws.{written_one}
 use Rattle.header.specs.SaidLaws.{header_one}
 use Rattle.registry.specs.SaidLaws.{entry_one, rule_one}
-use Prim.Native.Nat.{◌≤◌}
-use native.Mathlib.Omega.{arith}
-use Rattle.write_address.proofs.Values.{ip_small, address_answer, address_buffer}
-use borrow.Author.Rules.{rules}
+use Rattle.write_address.proofs.Values.{address_answer, address_buffer}
 use Rattle.write_address.proofs.append_address.Goals as goal
 
 pub returns : goal.returns

@@ -1,5 +1,4 @@
 use Rattle.write_address.proofs.Values.{form_bytes}
-use borrow.Author.Rules.{rules}
 use Rattle.write_address.proofs.form_bytes.Goals as goal
 
 pub returns : goal.returns

@@ -1,5 +1,4 @@
 use Rattle.write_address.proofs.Values.{plain_form, xor_form}
-use borrow.Author.Rules.{rules}
 use Rattle.write_address.proofs.form_of.Goals as goal
 
 pub returns-in_default : goal.returns-in_default

@@ -1,5 +1,4 @@
 use Rattle.write_address.proofs.Values.{plain_rule, xor_rule, no_address}
-use borrow.Author.Rules.{rules}
 use Rattle.write_address.proofs.rule_refusal.Goals as goal
 
 pub returns-in-Address : goal.returns-in-Address

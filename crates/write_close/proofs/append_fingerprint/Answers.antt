@@ -1,4 +1,4 @@
-use Rattle.std.proofs.Common.{ap, rules}
+use Rattle.std.proofs.Common.{ap}
 use Rattle.write_begin.specs.Begin.{written_said}
 use Rattle.write_begin.specs.SaidLaws.{written_one}
 use Rattle.write_close.proofs.Sums.{print_answer, print_buffer}

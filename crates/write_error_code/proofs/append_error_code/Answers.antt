@@ -1,6 +1,3 @@
-use Prim.Native.Nat.{◌≤◌}
-use lib.ListN.{length}
-use native.Mathlib.Omega.{arith}
 use mathlib.Core.Logic.{⊎_elim}
 use mathlib.Core.Path.{◌≡◌, ap}
 use Rattle.write_begin.specs.Begin.{written_said}
@@ -8,7 +5,6 @@ use Rattle.write_begin.specs.SaidLaws.{written_one}
 use Rattle.registry.specs.Rows.{rfc5389}
 use Rattle.write_error_code.specs.ErrorCode.{code_refusal}
 use Rattle.write_error_code.proofs.Values.{too_low, too_high, too_large, too_long, stops, keeps, code_answer, code_buffer}
-use borrow.Author.Rules.{rules}
 use Rattle.write_error_code.proofs.append_error_code.Goals as goal
 
 pub returns-then-code-lt300 : goal.returns-then-code-lt300

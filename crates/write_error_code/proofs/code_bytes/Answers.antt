@@ -1,5 +1,4 @@
 use Rattle.write_error_code.proofs.Values.{code_bytes}
-use borrow.Author.Rules.{rules}
 use Rattle.write_error_code.proofs.code_bytes.Goals as goal
 
 pub returns : goal.returns

@@ -1,9 +1,6 @@
 use Prim.Native.Nat.{◌-◌}
 use lib.ListN.{length}
-use Rattle.attribute.specs.SaidLaws.{walk_one}
-use Rattle.attribute.proofs.Stops.{stops}
-use Rattle.write_plan.proofs.Fronts.{Walking, start, turn, less, ends}
-use borrow.Author.Rules.{rules}
+use Rattle.write_plan.proofs.Fronts.{Walking}
 use Rattle.write_plan.proofs.covered.Given as goal
 
 abbrev pub invariant-loop-next : goal.invariant-loop-next

@@ -1,6 +1,5 @@
 use Rattle.header.specs.SaidLaws.{header_one}
 use Rattle.write_plan.proofs.Fronts.{fault_refused, fault_past, fault_none, fault_cut}
-use borrow.Author.Rules.{rules}
 use Rattle.write_plan.proofs.front_fault.Goals as goal
 
 pub returns-then-d-size : goal.returns-then-d-size

@@ -1,7 +1,6 @@
 use mathlib.Core.Path.{ap}
 use Rattle.write_plan.specs.Plan.{plan_said}
 use Rattle.write_plan.proofs.Plans.{at_21, at_23, at_24, at_25_alone, at_25, at_26, plan_goes}
-use borrow.Author.Rules.{rules}
 use Rattle.write_plan.proofs.plan_for.Goals as goal
 
 pub returns-then-front_fault-ne0 : goal.returns-then-front_fault-ne0

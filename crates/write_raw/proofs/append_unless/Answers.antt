@@ -3,7 +3,6 @@ use Rattle.write_begin.specs.Begin.{written_said}
 use Rattle.write_begin.specs.SaidLaws.{written_one}
 use Rattle.write_plan.specs.SaidLaws.{plan_one}
 use Rattle.write_raw.proofs.Writes.{value_short, attr_room, refused, total_is, kept, both}
-use borrow.Author.Rules.{rules}
 use Rattle.write_raw.proofs.append_unless.Goals as goal
 
 pub put_attr-requires : goal.put_attr-requires

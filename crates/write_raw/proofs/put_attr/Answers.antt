@@ -1,5 +1,4 @@
 use Rattle.write_raw.proofs.Writes.{parts}
-use borrow.Author.Rules.{rules}
 use Rattle.write_raw.proofs.put_attr.Goals as goal
 
 pub returns : goal.returns

@@ -2,7 +2,6 @@ use mathlib.Core.Path.{ap}
 use Rattle.write_begin.specs.Begin.{written_said}
 use Rattle.write_begin.specs.SaidLaws.{written_one}
 use Rattle.write_typed.proofs.Values.{value_answer, value_buffer}
-use borrow.Author.Rules.{rules}
 use Rattle.write_typed.proofs.append_value.Goals as goal
 
 pub returns : goal.returns

@@ -1,5 +1,4 @@
 use Rattle.write_typed.proofs.Values.{taken, refused}
-use borrow.Author.Rules.{rules}
 use Rattle.write_typed.proofs.refusal_of.Goals as goal
 
 pub returns-then-fault-eq0 : goal.returns-then-fault-eq0

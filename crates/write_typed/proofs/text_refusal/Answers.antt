@@ -1,6 +1,5 @@
 use Rattle.registry.specs.SaidLaws.{entry_one, rule_one}
 use Rattle.write_typed.proofs.Values.{is_text, no_text}
-use borrow.Author.Rules.{rules}
 use Rattle.write_typed.proofs.text_refusal.Goals as goal
 
 pub returns-in_default : goal.returns-in_default
