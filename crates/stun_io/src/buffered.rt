@@ -5,6 +5,9 @@ use std::io::{Error, Write};
 
 pub const ROOM: usize = 65536;
 
+// The system's number for a pipe that nobody reads.
+const EPIPE: i32 = 32;
+
 // What stands at the buffer's front and waits to be written, by its size; the first write that failed; whether some input was
 // at fault, and whether some couldn't be read.
 #[derive(Clone, Copy)]
@@ -36,6 +39,20 @@ impl Output {
     // Did a write fail?
     pub fn failed(&self) -> bool {
         self.failure.is_some()
+    }
+
+    // Did a pipe break? Nothing more is to be told then.
+    pub fn broken(&self) -> bool {
+        match self.failure {
+            Some(EPIPE) => true,
+            _ => false,
+        }
+    }
+
+    // Notes that nobody reads what is complained of, which ends the program as a broken pipe of standard output does.
+    pub fn unheard(mut self) -> Output {
+        self.failure = Some(EPIPE);
+        self
     }
 
     // Notes that some input was at fault.

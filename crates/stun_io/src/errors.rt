@@ -2,20 +2,26 @@
 use crate::parts::{find, minus, part};
 use std::io::{Error, ErrorKind, Write};
 
-pub fn complain(rt: HostRuntime, s: &[u8]) {
-    let _ = rt.stderr().write_all(s);
+// A pipe that nobody reads would have ended the program by a signal, had the library not turned that off: it ends quietly, with what
+// a shell says of that signal.
+const BROKEN: u8 = 141;
+
+// Complains, and answers whether somebody may read it: false where the pipe is broken.
+pub fn complain(rt: HostRuntime, s: &[u8]) -> bool {
+    match rt.stderr().write_all(s) {
+        Ok(()) => true,
+        Err(error) => status_of(&error) != BROKEN,
+    }
 }
 
-pub fn complain_number(rt: HostRuntime, before: &[u8], n: u64) {
-    complain(rt, before);
+pub fn complain_number(rt: HostRuntime, before: &[u8], n: u64) -> bool {
     let mut digits = [0u8; 20];
     let k = io::decimal(n, &mut digits);
-    complain(rt, &digits[..k]);
+    complain(rt, before) && complain(rt, &digits[..k])
 }
 
-pub fn complain_column(rt: HostRuntime, n: u64) {
-    complain_number(rt, b", column ", n);
-    complain(rt, b": not a hex digit\n");
+pub fn complain_column(rt: HostRuntime, n: u64) -> bool {
+    complain_number(rt, b", column ", n) && complain(rt, b": not a hex digit\n")
 }
 
 // An error's words, without the number in brackets that std has behind the system's.
@@ -41,11 +47,10 @@ pub fn unread(rt: HostRuntime, name: &[u8], error: Error) {
     fail(rt, name, error);
 }
 
-// What a write to standard output that failed makes the program end with. A pipe that nobody reads would have ended it by a signal, had
-// the library not turned that off: it ends quietly, with what a shell says of that signal.
+// What a write that failed makes the program end with.
 pub fn status_of(error: &Error) -> u8 {
     match error.kind() {
-        ErrorKind::BrokenPipe => 141,
+        ErrorKind::BrokenPipe => BROKEN,
         _ => 2,
     }
 }

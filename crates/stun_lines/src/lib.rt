@@ -35,13 +35,19 @@ struct State {
 // The answer to a line that is no hex: by the column of the first character that is no digit, or 0 where the digits are an
 // odd number.
 fn bad_line(line: u64, column: u64, o: Output, buf: &mut [u8; ROOM]) -> Output {
-    complain_number(o.rt(), b"stun: line ", line);
-    if column == 0 {
-        complain(o.rt(), b": an odd number of hex digits\n");
-    } else {
-        complain_column(o.rt(), column);
+    if o.broken() {
+        return o;
     }
-    o.faulty().put(buf, b"?\n")
+    let numbered = complain_number(o.rt(), b"stun: line ", line);
+    let told = if column == 0 {
+        complain(o.rt(), b": an odd number of hex digits\n")
+    } else {
+        complain_column(o.rt(), column)
+    };
+    if numbered && told {
+        return o.faulty().put(buf, b"?\n");
+    }
+    o.unheard()
 }
 
 // A line's size without the carriage return of a line end of two characters.
@@ -302,10 +308,14 @@ fn all(
     let mut left = u64::MAX;
     while left > 0 && goes_on(c) {
         c = turn(c, input, job, key, raw, buf);
-        w = progress::tick(rt, w, c.done);
+        if !c.out.broken() {
+            w = progress::tick(rt, w, c.done);
+        }
         left -= 1;
     }
-    progress::end(rt, w, c.done);
+    if !c.out.broken() {
+        progress::end(rt, w, c.done);
+    }
     c.out.finish(buf)
 }
 
