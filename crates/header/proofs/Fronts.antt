@@ -1,128 +1,100 @@
 -- What `front_of` and `header_of` return, case by case.
-use Prim.Native.Nat.{ℕ, ◌+◌, ◌≤◌, ◌<◌}
-use mathlib.Core.List.{List}
-use mathlib.Core.Bool.{Bool, true, false}
-use mathlib.Core.Path.{◌≡◌, refl, sym, ap, ◌∙◌}
-use native.Mathlib.Omega.{arith}
-use borrow.Author.Tests.{lt-ltb, le-ltb, ltb-true, ltb-false, le-leb, lt-leb, eq-eqb, ne_eqb, eqb-true}
-use lib.ListN.{length}
-use lib.Dec.{ltb, eqb}
+use Rattle.std.specs.Prelude.{ℕ, ◌+◌, ◌≤◌, ◌<◌, List, Bool, true, false, ◌≡◌, refl, length, ltb, eqb, Result, Ok, Err}
+use Rattle.std.proofs.Common.{sym, ap, ◌∙◌, arith, lt-ltb, le-ltb, ltb-true, ltb-false, le-leb, eq-eqb, ne_eqb}
+use borrow.Author.Tests.{lt-leb}
 use Rattle.base.specs.Choice.{pick}
 use Rattle.big_endian.specs.Numbers.{be16}
 use Rattle.cookie.specs.Cookie.{cookie_at}
+use Rattle.wire.specs.Refusal.{by}
 use Rattle.wire.specs.TypeNumber.{class_of, method_of, class_numbered, type_from}
-use Rattle.header.specs.Header.{front_fault, header_fault, id_of, refused_by, told, answer, front_of, header_of}
-use Rattle.wire.specs.declared.types.MessageClass.{MessageClass}
-use Rattle.wire.specs.declared.method.Method.{Method}
-use Rattle.wire.specs.declared.types.MessageType.{MessageType}
-use Rattle.wire.specs.declared.types.FromNumber.{FromNumber}
-use Rattle.wire.specs.declared.types.FromNumber.TheVariants as from
-use Rattle.header.specs.declared.Head.TheVariants.{Good, Refused}
-use Rattle.header.specs.declared.Header.{Header}
+use Rattle.wire.specs.declared.refusal.Refusal.{Refusal}
 use Rattle.wire.specs.declared.transaction_id.TransactionId.{TransactionId}
+use Rattle.wire.specs.declared.types.MessageType.{MessageType}
+use Rattle.header.specs.Header.{front_fault, header_fault, id_of, told, answer, front_of, header_of}
+use Rattle.header.specs.HeaderLaws.{Front, front_said, NoFront, front_refused}
+use Rattle.header.specs.declared.Header.{Header}
 
 -- a type number that is taken, and one that is refused
+made : ℕ → MessageType
+made n = record { class = class_numbered (class_of n); method = record { code = method_of n } }
+
 record Taken (n : ℕ) (t : MessageType) : Type 0 where
   small : n < 16384
-  type : t ≡ record { class = class_numbered (class_of n); method = record { code = method_of n } }
+  type : t ≡ made n
 
-taken : {n : ℕ} {t : MessageType} {w : FromNumber} → w ≡ type_from n → w ≡ from.Known t → Taken n t
-unfolding type_from
+taken : {n : ℕ} {t : MessageType} {w : Result MessageType Refusal} → w ≡ type_from n → w ≡ Ok t → Taken n t
+unfolding type_from made
 taken {n} {t} {w} e f = go (ltb n 16384) refl (sym e ∙ f)
   where
-    made : MessageType
-    made = record { class = class_numbered (class_of n); method = record { code = method_of n } }
-
-    go : (b : Bool) → ltb n 16384 ≡ b → pick b (from.Known made) (from.Refused 2) ≡ from.Known t → Taken n t
+    go : (b : Bool) → ltb n 16384 ≡ b → ◌≡◌ {A = Result MessageType Refusal} (pick b (Ok (made n)) (Err (by 2))) (Ok t) → Taken n t
     go true p q = record { small = ltb-true n 16384 p; type = cc }
     go false p q = let z : ◌≡◌ {A = ℕ} 0 1 = cc in absurd (omega arith)
 
-record Top (n k : ℕ) : Type 0 where
+record Top (n : ℕ) (r : Refusal) : Type 0 where
   large : 16384 ≤ n
-  number : k ≡ 2
+  refusal : r ≡ by 2
 
-top : {n k : ℕ} {w : FromNumber} → w ≡ type_from n → w ≡ from.Refused k → Top n k
-unfolding type_from
-top {n} {k} {w} e f = go (ltb n 16384) refl (sym e ∙ f)
+top : {n : ℕ} {r : Refusal} {w : Result MessageType Refusal} → w ≡ type_from n → w ≡ Err r → Top n r
+unfolding type_from made
+top {n} {r} {w} e f = go (ltb n 16384) refl (sym e ∙ f)
   where
-    made : MessageType
-    made = record { class = class_numbered (class_of n); method = record { code = method_of n } }
-
-    go : (b : Bool) → ltb n 16384 ≡ b → pick b (from.Known made) (from.Refused 2) ≡ from.Refused k → Top n k
+    go : (b : Bool) → ltb n 16384 ≡ b → ◌≡◌ {A = Result MessageType Refusal} (pick b (Ok (made n)) (Err (by 2))) (Err r) → Top n r
     go true p q = let z : ◌≡◌ {A = ℕ} 0 1 = cc in absurd (omega arith)
-    go false p q = record { large = ltb-false n 16384 p; number = cc }
+    go false p q = record { large = ltb-false n 16384 p; refusal = cc }
 
 -- the number decides the answer
-by_number : (k : ℕ) (d : List ℕ) {r : Header} → front_fault d ≡ k → r ≡ answer k d → r ≡ front_of d
+by_number : (k : ℕ) (d : List ℕ) → front_fault d ≡ k → answer k d ≡ front_of d
 unfolding front_of
-by_number k d e p = p ∙ ap (λ (n : ℕ). answer n d) (sym e)
+by_number k d e = ap (λ (n : ℕ). answer n d) (sym e)
 
-pub front_1 : (d : List ℕ) {r : Header} → length d < 20 → r ≡ refused_by 1 → r ≡ front_of d
+pub front_1 : (d : List ℕ) → length d < 20 → Err (by 1) ≡ front_of d
 unfolding front_fault answer
-front_1 d {r} h p = by_number 1 d (simp (lt-ltb (length d) 20 h)) p
+front_1 d h = by_number 1 d (simp (lt-ltb (length d) 20 h))
 
-module _ (d : List ℕ) {n : ℕ} {w : FromNumber} (h : 20 ≤ length d) (e : n ≡ be16 d 0) (f : w ≡ type_from n) where
-  pub front_2 : {r : Header} {k : ℕ} → w ≡ from.Refused k → r ≡ refused_by k → r ≡ front_of d
+module _ (d : List ℕ) {n : ℕ} {w : Result MessageType Refusal} (h : 20 ≤ length d) (e : n ≡ be16 d 0) (f : w ≡ type_from n) where
+  pub front_2 : {r : Refusal} → w ≡ Err r → Err r ≡ front_of d
   unfolding front_fault answer
-  front_2 {r} {k} g p =
-      let t : Top n k = top f g in
-      by_number 2 d (simp (le-ltb (length d) 20 h, le-leb 16384 (be16 d 0) (omega (arith, t.large)))) (p ∙ ap refused_by t.number)
+  front_2 {r} g =
+      let t : Top n r = top f g in
+      ap (λ (r : Refusal). Err r) t.refusal ∙ by_number 2 d (simp (le-ltb (length d) 20 h, le-leb 16384 (be16 d 0) (omega (arith, t.large))))
 
-  pub front_3 : {r : Header} {t : MessageType} {q : Bool} → w ≡ from.Known t → q ≡ cookie_at d 4 → q ≡ false → r ≡ refused_by 3 → r ≡ front_of d
-  unfolding front_fault answer
-  front_3 {r} {t} g c k p =
-      by_number 3 d
-      (simp (le-ltb (length d) 20 h, lt-leb 16384 (be16 d 0) (omega (arith, (taken f g).small)), sym c ∙ k))
-      p
+  module _ {t : MessageType} {q : Bool} (g : w ≡ Ok t) (c : q ≡ cookie_at d 4) where
+    pub front_3 : q ≡ false → Err (by 3) ≡ front_of d
+    unfolding front_fault answer
+    front_3 k =
+        by_number 3 d
+        (simp (le-ltb (length d) 20 h, lt-leb 16384 (be16 d 0) (omega (arith, (taken f g).small)), sym c ∙ k))
 
-  pub front_0 : {t : MessageType} {q : Bool} {b : ℕ} {i : TransactionId} → w ≡ from.Known t → q ≡ cookie_at d 4 → q ≡ true
-      → b ≡ be16 d 2 → i.bytes ≡ id_of d → record { head = Good t.class t.method b; id = i } ≡ front_of d
-  unfolding front_fault answer told
-  front_0 {t} {q} {b} {i} g c k s j =
-      by_number 0 d
-      (simp (le-ltb (length d) 20 h, lt-leb 16384 (be16 d 0) (omega (arith, (taken f g).small)), sym c ∙ k))
-      (rw ((taken f g).type, s, e) (ap (λ (x : List ℕ). record { head = (told d).head; id = record { bytes = x } }) j))
+    pub front_0 : {b : ℕ} {i : TransactionId} → q ≡ true → b ≡ be16 d 2 → i.bytes ≡ id_of d
+        → Ok (record { class = t.class; method = t.method; body = b; id = i }) ≡ front_of d
+    unfolding front_fault answer told made
+    front_0 {b} {i} k s j =
+        rw ((taken f g).type, s, e) (ap (λ (x : List ℕ). Ok (record { class = (told d).class; method = (told d).method; body = (told d).body; id = record { bytes = x } })) j)
+        ∙ by_number 0 d (simp (le-ltb (length d) 20 h, lt-leb 16384 (be16 d 0) (omega (arith, (taken f g).small)), sym c ∙ k))
 
--- the front of a datagram that isn't refused says its own body length
-record Said (d : List ℕ) (b : ℕ) : Type 0 where
-  fault : front_fault d ≡ 0
-  body : b ≡ be16 d 2
+module _ (d : List ℕ) {w : Result Header Refusal} (e : w ≡ front_of d) where
+  pub header_front : {r : Refusal} → w ≡ Err r → Err r ≡ header_of d
+  unfolding header_of header_fault answer
+  header_front {r} f =
+      let n : NoFront d r = front_refused d (sym e ∙ f) in
+      ap (λ (r : Refusal). Err r) n.refusal ∙ simp (ne_eqb (front_fault d) 0 n.some)
 
-said : (d : List ℕ) {c : MessageClass} {m : Method} {b : ℕ} → (front_of d).head ≡ Good c m b → Said d b
-unfolding front_of answer told
-said d {c} {m} {b} e = go (eqb (front_fault d) 0) refl e
-  where
-    go : (q : Bool) → eqb (front_fault d) 0 ≡ q → (pick q (told d) (refused_by (front_fault d))).head ≡ Good c m b → Said d b
-    go true p f = record { fault = eqb-true (front_fault d) 0 p; body = cc }
-    go false p f = let z : ◌≡◌ {A = ℕ} 0 1 = cc in absurd (omega arith)
+  module _ {h : Header} (f : w ≡ Ok h) where
+    front : Front d h
+    front = front_said d (sym e ∙ f)
 
-refused_front : (d : List ℕ) {k : ℕ} → (front_of d).head ≡ Refused k → eqb (front_fault d) 0 ≡ false
-unfolding front_of answer told
-refused_front d {k} e = go (eqb (front_fault d) 0) refl e
-  where
-    go : (q : Bool) → eqb (front_fault d) 0 ≡ q → (pick q (told d) (refused_by (front_fault d))).head ≡ Refused k → eqb (front_fault d) 0 ≡ false
-    go true p f = let z : ◌≡◌ {A = ℕ} 0 1 = cc in absurd (omega arith)
-    go false p f = p
-
-module _ (d : List ℕ) {h : Header} (e : h ≡ front_of d) where
-  pub header_front : {k : ℕ} → h.head ≡ Refused k → h ≡ header_of d
-  unfolding header_of header_fault front_of
-  header_front {k} f =
-      let q : eqb (front_fault d) 0 ≡ false = refused_front d (ap (λ (x : Header). x.head) (sym e) ∙ f) in
-      e ∙ rw q
-
-  module _ {c : MessageClass} {m : Method} {b : ℕ} (f : h.head ≡ Good c m b) where
-    found : Said d b
-    found = said d (ap (λ (x : Header). x.head) (sym e) ∙ f)
-
-    by_size : (k : ℕ) {r : Header} → pick (eqb (length d) (20 + be16 d 2)) 0 4 ≡ k → r ≡ answer k d → r ≡ header_of d
+    by_size : (k : ℕ) → pick (eqb (length d) (20 + be16 d 2)) 0 4 ≡ k → answer k d ≡ header_of d
     unfolding header_of header_fault
-    by_size k p q = q ∙ ap (λ (n : ℕ). answer n d) (sym (rw found.fault p))
+    by_size k p = ap (λ (n : ℕ). answer n d) (sym (rw front.fault p))
 
-    pub header_0 : length d ≡ 20 + b → h ≡ header_of d
-    unfolding front_of
-    header_0 s = by_size 0 (rw (eq-eqb (length d) (20 + be16 d 2) (s ∙ ap (λ (n : ℕ). 20 + n) found.body))) (e ∙ ap (λ (n : ℕ). answer n d) found.fault)
+    sized : length d ≡ 20 + h.body → length d ≡ 20 + be16 d 2
+    unfolding told
+    sized s = s ∙ ap (λ (h : Header). 20 + h.body) front.header
 
-    pub header_4 : {r : Header} → (length d ≡ 20 + b → ⊥) → r ≡ refused_by 4 → r ≡ header_of d
+    pub header_0 : length d ≡ 20 + h.body → Ok h ≡ header_of d
     unfolding answer
-    header_4 s p = by_size 4 (rw (ne_eqb (length d) (20 + be16 d 2) (λ q. s (q ∙ ap (λ (n : ℕ). 20 + n) (sym found.body))))) p
+    header_0 s = ap (λ (h : Header). Ok h) front.header ∙ by_size 0 (rw (eq-eqb (length d) (20 + be16 d 2) (sized s)))
+
+    pub header_4 : (length d ≡ 20 + h.body → ⊥) → Err (by 4) ≡ header_of d
+    unfolding answer told
+    header_4 s = by_size 4 (rw (ne_eqb (length d) (20 + be16 d 2) (λ q. s (q ∙ ap (λ (h : Header). 20 + h.body) (sym front.header)))))

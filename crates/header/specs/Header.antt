@@ -1,12 +1,12 @@
 -- The checks of a header, in order, and what it says (RFC 5389 section 6; docs/SCOPE.md, "Reading": numbers 1 to 4).
-use Rattle.std.specs.Prelude.{ℕ, ◌+◌, List, ◌∷◌, length, take, drop, replicate, ltb, leb, eqb}
+use Rattle.std.specs.Prelude.{ℕ, ◌+◌, List, ◌∷◌, length, take, drop, ltb, leb, eqb, Result, Ok, Err}
 use Rattle.base.specs.Choice.{pick}
-use Rattle.base.specs.Said.{Said, says}
+use Rattle.base.specs.Said.{Said}
 use Rattle.big_endian.specs.Numbers.{be16}
 use Rattle.cookie.specs.Cookie.{cookie_at}
+use Rattle.wire.specs.Refusal.{by, result_said}
 use Rattle.wire.specs.TypeNumber.{class_of, method_of, class_number, class_numbered}
-use Rattle.header.specs.declared.Head.{Head}
-use Rattle.header.specs.declared.Head.TheVariants.{Good, Refused}
+use Rattle.wire.specs.declared.refusal.Refusal.{Refusal}
 use Rattle.header.specs.declared.Header.{Header}
 
 -- 1: fewer than 20 bytes; 2: a top bit of the type is set; 3: the cookie differs; 0: none of these
@@ -20,29 +20,24 @@ header_fault d = pick (eqb (front_fault d) 0) (pick (eqb (length d) (20 + be16 d
 unfoldable pub id_of : List ℕ → List ℕ
 id_of d = take 12 (drop 8 d)
 
--- what an answer says: good, with class, method and body length, or refused by a number; and the bytes of the ID
-unfoldable pub head_said : Head → List ℕ → Said
-head_said (Good c m b) i = says 0 0 (class_number c ∷ m.code ∷ b ∷ i)
-head_said (Refused n) i = says 1 n i
-
-unfoldable pub header_said : Header → Said
-header_said h = head_said h.head h.id.bytes
-
-abbrev pub refused_by : ℕ → Header
-refused_by n = record { head = Refused n; id = record { bytes = replicate 12 0 } }
-
 unfoldable pub told : List ℕ → Header
 told d = record {
-  head = Good (class_numbered (class_of (be16 d 0))) (record { code = method_of (be16 d 0) }) (be16 d 2);
+  class = class_numbered (class_of (be16 d 0));
+  method = record { code = method_of (be16 d 0) };
+  body = be16 d 2;
   id = record { bytes = id_of d };
 }
 
-unfoldable pub answer : ℕ → List ℕ → Header
-answer n d = pick (eqb n 0) (told d) (refused_by n)
+-- what an answer says: class, method, body length and the bytes of the ID, or refused by a number
+unfoldable pub header_said : Result Header Refusal → Said
+header_said = result_said (λ (h : Header). class_number h.class ∷ h.method.code ∷ h.body ∷ h.id.bytes)
+
+unfoldable pub answer : ℕ → List ℕ → Result Header Refusal
+answer n d = pick (eqb n 0) (Ok (told d)) (Err (by n))
 
 -- the header at the front of a buffer, and that of a datagram
-unfoldable pub front_of : List ℕ → Header
+unfoldable pub front_of : List ℕ → Result Header Refusal
 front_of d = answer (front_fault d) d
 
-unfoldable pub header_of : List ℕ → Header
+unfoldable pub header_of : List ℕ → Result Header Refusal
 header_of d = answer (header_fault d) d

@@ -1,8 +1,8 @@
 -- What the checks of a header answer.
-use Rattle.std.specs.Prelude.{ℕ, ◌+◌, ◌-◌, ◌≤◌, ◌<◌, List, Bool, true, false, ◌≡◌, refl, length, drop, eqb, leb}
+use Rattle.std.specs.Prelude.{ℕ, ◌+◌, ◌-◌, ◌≤◌, ◌<◌, List, Bool, true, false, ◌≡◌, refl, length, drop, eqb, leb, Result, Ok, Err}
 use Rattle.std.proofs.Math.Path.{sym, ap}
-use Rattle.std.proofs.Common.{◌∙◌, arith}
-use borrow.Author.Tests.{eqb-true, eq-eqb, ne_eqb, ltb-false, leb-false, le-ltb}
+use Rattle.std.proofs.Common.{◌∙◌, arith, eqb-true, eq-eqb, ltb-false, leb-false, le-ltb}
+use borrow.Author.Tests.{eqb-false}
 use Rattle.std.proofs.Math.ListN.{take, length-take}
 use Rattle.std.proofs.Math.Seq.{get_or-take, take-take}
 use Rattle.std.proofs.Math.Dec.{ltb}
@@ -10,19 +10,16 @@ use Rattle.base.specs.Choice.{pick}
 use Rattle.base.specs.ListLaws.{drop-take}
 use Rattle.big_endian.specs.Numbers.{be16}
 use Rattle.cookie.specs.Cookie.{cookie_at}
-use Rattle.wire.specs.TypeNumber.{class_of, method_of, class_numbered}
-use Rattle.wire.specs.declared.method.Method.{Method}
-use Rattle.wire.specs.declared.types.MessageClass.{MessageClass}
-use Rattle.header.specs.declared.Head.{Head}
-use Rattle.header.specs.declared.Head.TheVariants.{Good, Refused}
+use Rattle.wire.specs.Refusal.{by, result_said}
+use Rattle.wire.specs.declared.refusal.Refusal.{Refusal}
 use Rattle.header.specs.declared.Header.{Header}
-use Rattle.header.specs.Header.{front_fault, header_fault, head_said, header_said, told, refused_by, answer, front_of, header_of}
+use Rattle.header.specs.Header.{front_fault, header_fault, header_said, told, answer, front_of, header_of}
 
 answer_number : (n : ℕ) (d : List ℕ) → (header_said (answer n d)).number ≡ n
-unfolding head_said header_said answer told
+unfolding result_said header_said answer
 answer_number n d = go (eqb n 0) refl
   where
-    go : (b : Bool) → eqb n 0 ≡ b → (header_said (pick b (told d) (refused_by n))).number ≡ n
+    go : (b : Bool) → eqb n 0 ≡ b → (header_said (pick b (Ok (told d)) (Err (by n)))).number ≡ n
     go true e = sym (eqb-true n 0 e)
     go false e = refl
 
@@ -35,50 +32,65 @@ pub header_number : (d : List ℕ) → (header_said (header_of d)).number ≡ he
 unfolding header_of
 header_number d = answer_number (header_fault d) d
 
--- what the header of a datagram that isn't refused says
-pub record GoodHead (d : List ℕ) (c : MessageClass) (m : Method) (b : ℕ) : Type 0 where
-  pub fault : header_fault d ≡ 0
-  pub class : c ≡ class_numbered (class_of (be16 d 0))
-  pub method : m ≡ record { code = method_of (be16 d 0) }
-  pub body : b ≡ be16 d 2
-  pub answer : header_of d ≡ told d
+-- what an answer comes from: no fault and what the bytes say, or the fault
+record Given (n : ℕ) (d : List ℕ) (h : Header) : Type 0 where
+  none : n ≡ 0
+  header : h ≡ told d
 
-pub good_head : (d : List ℕ) {c : MessageClass} {m : Method} {b : ℕ} → (header_of d).head ≡ Good c m b → GoodHead d c m b
-unfolding header_of answer told head_said header_said
-good_head d {c} {m} {b} e =
-    let f : header_fault d ≡ 0 = sym (header_number d) ∙ ap (λ (x : Head). (head_said x (header_of d).id.bytes).number) e in
-    let g : header_of d ≡ told d = rw f in
-    let h : (told d).head ≡ Good c m b = sym (ap (λ (x : Header). x.head) g) ∙ e in
-    record { fault = f; class = cc; method = cc; body = cc; answer = g }
+given : (n : ℕ) (d : List ℕ) {h : Header} → answer n d ≡ Ok h → Given n d h
+unfolding answer
+given n d {h} e = go (eqb n 0) refl e
+  where
+    go : (b : Bool) → eqb n 0 ≡ b → ◌≡◌ {A = Result Header Refusal} (pick b (Ok (told d)) (Err (by n))) (Ok h) → Given n d h
+    go true p q = record { none = eqb-true n 0 p; header = cc }
+    go false p q = let z : ◌≡◌ {A = ℕ} 0 1 = cc in absurd (omega arith)
+
+record Withheld (n : ℕ) (r : Refusal) : Type 0 where
+  some : n ≡ 0 → ⊥
+  refusal : r ≡ by n
+
+withheld : (n : ℕ) (d : List ℕ) {r : Refusal} → answer n d ≡ Err r → Withheld n r
+unfolding answer
+withheld n d {r} e = go (eqb n 0) refl e
+  where
+    go : (b : Bool) → eqb n 0 ≡ b → ◌≡◌ {A = Result Header Refusal} (pick b (Ok (told d)) (Err (by n))) (Err r) → Withheld n r
+    go true p q = let z : ◌≡◌ {A = ℕ} 0 1 = cc in absurd (omega arith)
+    go false p q = record { some = eqb-false n 0 p; refusal = cc }
+
+-- what the header of a datagram that isn't refused says
+pub record GoodHead (d : List ℕ) (h : Header) : Type 0 where
+  pub fault : header_fault d ≡ 0
+  pub header : h ≡ told d
+
+pub good_head : (d : List ℕ) {h : Header} → header_of d ≡ Ok h → GoodHead d h
+unfolding header_of
+good_head d e = let g = given (header_fault d) d e in record { fault = g.none; header = g.header }
 
 -- and one that is refused
-pub record Not (d : List ℕ) (k : ℕ) : Type 0 where
-  pub number : header_fault d ≡ k
+pub record Not (d : List ℕ) (r : Refusal) : Type 0 where
   pub some : header_fault d ≡ 0 → ⊥
-  pub answer : header_of d ≡ refused_by k
+  pub refusal : r ≡ by (header_fault d)
 
-pub refused : (d : List ℕ) {k : ℕ} → (header_of d).head ≡ Refused k → Not d k
-unfolding header_of answer told head_said header_said
-refused d {k} e =
-    let f : header_fault d ≡ k = sym (header_number d) ∙ ap (λ (x : Head). (head_said x (header_of d).id.bytes).number) e in
-    let n : header_fault d ≡ 0 → ⊥ = λ z. let y : ◌≡◌ {A = ℕ} 0 1 = cc (ap (λ (n : ℕ). (answer n d).head) z) in omega arith in
-    record { number = f; some = n; answer = simp (ne_eqb (header_fault d) 0 n) (ap refused_by f) }
+pub refused : (d : List ℕ) {r : Refusal} → header_of d ≡ Err r → Not d r
+unfolding header_of
+refused d e = let w = withheld (header_fault d) d e in record { some = w.some; refusal = w.refusal }
 
 -- what the front of a buffer says where it has a header
-pub record Front (d : List ℕ) (b : ℕ) : Type 0 where
+pub record Front (d : List ℕ) (h : Header) : Type 0 where
   pub fault : front_fault d ≡ 0
-  pub body : b ≡ be16 d 2
+  pub header : h ≡ told d
 
-pub front_said : (d : List ℕ) {c : MessageClass} {m : Method} {b : ℕ} → (front_of d).head ≡ Good c m b → Front d b
-unfolding front_of answer told head_said header_said
-front_said d {c} {m} {b} e =
-    let f : front_fault d ≡ 0 = sym (front_number d) ∙ ap (λ (x : Head). (head_said x (front_of d).id.bytes).number) e in
-    let g : (told d).head ≡ Good c m b = sym (ap (λ (n : ℕ). (answer n d).head) f) ∙ e in
-    record { fault = f; body = cc }
+pub front_said : (d : List ℕ) {h : Header} → front_of d ≡ Ok h → Front d h
+unfolding front_of
+front_said d e = let g = given (front_fault d) d e in record { fault = g.none; header = g.header }
 
-pub front_refused : (d : List ℕ) {k : ℕ} → (front_of d).head ≡ Refused k → front_fault d ≡ 0 → ⊥
-unfolding front_of answer told
-front_refused d {k} e z = let y : ◌≡◌ {A = ℕ} 0 1 = cc (ap (λ (n : ℕ). (answer n d).head) z) in omega arith
+pub record NoFront (d : List ℕ) (r : Refusal) : Type 0 where
+  pub some : front_fault d ≡ 0 → ⊥
+  pub refusal : r ≡ by (front_fault d)
+
+pub front_refused : (d : List ℕ) {r : Refusal} → front_of d ≡ Err r → NoFront d r
+unfolding front_of
+front_refused d e = let w = withheld (front_fault d) d e in record { some = w.some; refusal = w.refusal }
 
 -- what it is that no check refuses
 pub record Checked (d : List ℕ) : Type 0 where

@@ -1,3 +1,4 @@
+pub mod Refusal
 pub mod TypeNumber
 pub mod TypeLaws
 pub mod SaidLaws

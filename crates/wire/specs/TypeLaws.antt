@@ -1,13 +1,11 @@
 -- The type number and its class and method are inverse to each other, on their whole range.
-use Rattle.std.specs.Prelude.{ℕ, zero, suc, ◌+◌, ◌*◌, ◌/◌, ◌%◌, ◌<◌, ◌≡◌, refl}
+use Rattle.std.specs.Prelude.{ℕ, zero, suc, ◌+◌, ◌*◌, ◌/◌, ◌%◌, ◌<◌, ◌≡◌, refl, Ok}
 use Rattle.std.proofs.Common.{sym, ap, ◌∙◌, lt-ltb, le-ltb}
 use native.Mathlib.Omega.{arith}
 use Rattle.wire.specs.TypeNumber.{type_of, class_of, method_of, class_number, class_numbered, at_most_three, type_number, type_from}
 use Rattle.wire.specs.declared.types.MessageClass.{MessageClass}
 use Rattle.wire.specs.declared.types.MessageClass.TheVariants.{Request, Indication, SuccessResponse, ErrorResponse}
 use Rattle.wire.specs.declared.types.MessageType.{MessageType}
-use Rattle.wire.specs.declared.types.TypeNumber.TheVariants.{Number}
-use Rattle.wire.specs.declared.types.FromNumber.TheVariants.{Known}
 
 -- a number of five digits, and each of them again
 abbrev five : ℕ → ℕ → ℕ → ℕ → ℕ → ℕ
@@ -156,7 +154,7 @@ class_is n c e = sym (class_numbered_lem c) ∙ ap class_numbered e ∙ last n
     last (suc (suc (suc n))) = rw (le-ltb (suc (suc (suc n))) 3 (omega arith))
 
 -- a class and a method, made a type number, are read from it
-pub type_back : (t : MessageType) → t.method.code < 4096 → type_from (type_of (class_number t.class) t.method.code) ≡ Known t
+pub type_back : (t : MessageType) → t.method.code < 4096 → type_from (type_of (class_number t.class) t.method.code) ≡ Ok t
 unfolding type_from
 type_back t h =
     let c : ℕ = class_number t.class in
@@ -165,6 +163,6 @@ type_back t h =
 
 -- what is read from a type number makes that number again
 pub type_forth : (n : ℕ) → n < 16384
-    → type_number (record { class = class_numbered (class_of n); method = record { code = method_of n } }) ≡ Number n
+    → type_number (record { class = class_numbered (class_of n); method = record { code = method_of n } }) ≡ Ok n
 unfolding type_number
 type_forth n h = rw (lt-ltb (method_of n) 4096 (method_below n h), class_number_lem (class_of n) (class_below n h), number_forth n h)

@@ -1,16 +1,13 @@
 -- Class, method and the type number (RFC 5389 section 6, figure 3; docs/SCOPE.md, "The type number").
-use Rattle.std.specs.Prelude.{ℕ, zero, suc, ◌+◌, ◌*◌, ◌/◌, ◌%◌, [], ◌∷◌, ltb}
+use Rattle.std.specs.Prelude.{ℕ, zero, suc, ◌+◌, ◌*◌, ◌/◌, ◌%◌, [], ◌∷◌, ltb, Result, Ok, Err}
 use Rattle.base.specs.Choice.{pick}
-use Rattle.base.specs.Said.{Said, says}
-use Rattle.wire.specs.declared.method.NewMethod.{NewMethod}
-use Rattle.wire.specs.declared.method.NewMethod.TheVariants as new
+use Rattle.base.specs.Said.{Said}
+use Rattle.wire.specs.Refusal.{by, result_said}
+use Rattle.wire.specs.declared.method.Method.{Method}
+use Rattle.wire.specs.declared.refusal.Refusal.{Refusal}
 use Rattle.wire.specs.declared.types.MessageClass.{MessageClass}
 use Rattle.wire.specs.declared.types.MessageClass.TheVariants.{Request, Indication, SuccessResponse, ErrorResponse}
 use Rattle.wire.specs.declared.types.MessageType.{MessageType}
-use Rattle.wire.specs.declared.types.TypeNumber.{TypeNumber}
-use Rattle.wire.specs.declared.types.TypeNumber.TheVariants as number
-use Rattle.wire.specs.declared.types.FromNumber.{FromNumber}
-use Rattle.wire.specs.declared.types.FromNumber.TheVariants as back
 
 -- from bit 13 down to bit 0: M11..M7, C1, M6..M4, C0, M3..M0
 unfoldable pub type_of : ℕ → ℕ → ℕ
@@ -40,27 +37,22 @@ unfoldable pub at_most_three : ℕ → ℕ
 at_most_three n = pick (ltb n 3) n 3
 
 -- a method is a number of twelve bits: else 22
-unfoldable pub method_made : ℕ → NewMethod
-method_made m = pick (ltb m 4096) (new.Made (record { code = m })) (new.Refused 22)
+unfoldable pub method_made : ℕ → Result Method Refusal
+method_made m = pick (ltb m 4096) (Ok (record { code = m })) (Err (by 22))
 
-unfoldable pub type_number : MessageType → TypeNumber
-type_number t =
-    pick (ltb t.method.code 4096) (number.Number (type_of (class_number t.class) t.method.code)) (number.Refused 22)
+unfoldable pub type_number : MessageType → Result ℕ Refusal
+type_number t = pick (ltb t.method.code 4096) (Ok (type_of (class_number t.class) t.method.code)) (Err (by 22))
 
 -- the top two bits are zero: else 2
-unfoldable pub type_from : ℕ → FromNumber
-type_from n =
-    pick (ltb n 16384) (back.Known (record { class = class_numbered (class_of n); method = record { code = method_of n } })) (back.Refused 2)
+unfoldable pub type_from : ℕ → Result MessageType Refusal
+type_from n = pick (ltb n 16384) (Ok (record { class = class_numbered (class_of n); method = record { code = method_of n } })) (Err (by 2))
 
--- what each answer says: what was asked for, with its values, or refused by a number
-unfoldable pub new_method_said : NewMethod → Said
-new_method_said (new.Made m) = says 0 0 (m.code ∷ [])
-new_method_said (new.Refused n) = says 1 n []
+-- what each answer says: the values of what was asked for, or refused by a number
+unfoldable pub new_method_said : Result Method Refusal → Said
+new_method_said = result_said (λ (m : Method). m.code ∷ [])
 
-unfoldable pub type_number_said : TypeNumber → Said
-type_number_said (number.Number t) = says 0 0 (t ∷ [])
-type_number_said (number.Refused n) = says 1 n []
+unfoldable pub type_number_said : Result ℕ Refusal → Said
+type_number_said = result_said (λ (t : ℕ). t ∷ [])
 
-unfoldable pub from_number_said : FromNumber → Said
-from_number_said (back.Known t) = says 0 0 (class_number t.class ∷ t.method.code ∷ [])
-from_number_said (back.Refused n) = says 1 n []
+unfoldable pub from_number_said : Result MessageType Refusal → Said
+from_number_said = result_said (λ (t : MessageType). class_number t.class ∷ t.method.code ∷ [])

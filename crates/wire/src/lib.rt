@@ -2,5 +2,6 @@
 #![tactic(auto)]
 
 pub mod method;
+pub mod refusal;
 pub mod transaction_id;
 pub mod types;

@@ -3,6 +3,7 @@ ghost use Rattle.std.specs.Prelude.{◌≡◌, ◌<◌};
 ghost use Rattle.wire.specs.TypeNumber.{class_number, at_most_three, type_number, type_from, type_of, type_number_said, from_number_said};
 
 use crate::method::Method;
+use crate::refusal::Refusal;
 
 #[derive(Clone, Copy)]
 pub enum MessageClass {
@@ -16,18 +17,6 @@ pub enum MessageClass {
 pub struct MessageType {
     pub class: MessageClass,
     pub method: Method,
-}
-
-#[derive(Clone, Copy)]
-pub enum TypeNumber {
-    Number(u16),
-    Refused { number: u8 },
-}
-
-#[derive(Clone, Copy)]
-pub enum FromNumber {
-    Known(MessageType),
-    Refused { number: u8 },
 }
 
 impl MessageClass {
@@ -65,29 +54,29 @@ fn type_number(c: u16, m: u16) -> u16
 
 impl MessageType {
     // The type number; a method above 4,095 is refused by 22.
-    pub fn as_u16(self) -> TypeNumber
+    pub fn as_u16(self) -> Result<u16, Refusal>
         ensures { type_number_said result ≡ type_number_said (type_number self) }
     {
         let class = self.class;
         let m = self.method.code;
         if m < 0x1000 {
-            return TypeNumber::Number(type_number(class.as_u16(), m));
+            return Ok(type_number(class.as_u16(), m));
         }
-        TypeNumber::Refused { number: 22 }
+        Err(Refusal::METHOD)
     }
 
     // Class and method of a type number; one with a top bit set is refused by 2.
-    pub fn from_u16(value: u16) -> FromNumber
+    pub fn from_u16(value: u16) -> Result<MessageType, Refusal>
         ensures { from_number_said result ≡ from_number_said (type_from value) }
     {
         if value < 0x4000 {
-            return FromNumber::Known(MessageType {
+            return Ok(MessageType {
                 class: class_numbered(value / 256 % 2 * 2 + value / 16 % 2),
                 method: Method {
                     code: value / 512 * 128 + value / 32 % 8 * 16 + value % 16,
                 },
             });
         }
-        FromNumber::Refused { number: 2 }
+        Err(Refusal::TYPE)
     }
 }
