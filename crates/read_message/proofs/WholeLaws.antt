@@ -1,5 +1,5 @@
 -- What it takes to be whole, and what the reading of a whole datagram says: over the list of types.
-use Rattle.std.specs.Prelude.{ℕ, ◌<◌, List, [], ◌≡◌, length, drop, Result, Ok, Err}
+use Rattle.std.specs.Prelude.{ℕ, ◌<◌, List, [], ◌≡◌, length, drop, Bool, true, false, Result, Ok, Err, is_ok}
 use Rattle.std.proofs.Math.Path.{refl, sym, ap}
 use Rattle.std.proofs.Common.{◌∙◌, eq-eqb, ne_eqb}
 use native.Mathlib.Omega.{arith}
@@ -13,6 +13,7 @@ use Rattle.header.specs.Header.{header_fault, id_of}
 use Rattle.attribute.specs.Attribute.{Body, rest, parse}
 use Rattle.attribute.specs.Scan.{Scan, scan, scan_said, scanned, Pass}
 use Rattle.attribute.specs.PassLaws.{AllPass, passed_all, all_passed, fault_some}
+use Rattle.attribute.specs.declared.Fault.{Fault}
 use Rattle.registry.specs.declared.Row.{Row}
 use Rattle.read_fingerprints.specs.Fingerprints.{print_faults}
 use Rattle.read_message.specs.Reading as answer
@@ -91,3 +92,26 @@ module _ (rows : List Row) (d : List ℕ) where
   -- what the reader tells of a whole datagram
   pub told : Whole rows d → reading_of rows d ≡ whole_of d
   told w = parts_told (parts w)
+
+  -- a refusal's number is never nought, nor is that of a first fault
+  pub refusal_some : {r : Refusal} → reading_of rows d ≡ Err r → r.number ≡ 0 → ⊥
+  unfolding Whole reading_said answer_said
+  refusal_some e z =
+      let w : Whole rows d = ap (λ (x : Result Reading Refusal). (reading_said x).number) e ∙ z in
+      let y : ◌≡◌ {A = Bool} true false = ap is_ok (sym (told w) ∙ e) in
+      absurd cc
+
+  pub reason_some : {r : Reading} {f : Fault} → reading_of rows d ≡ Ok r → r.attributes ≡ Err f → f.reason.number ≡ 0 → ⊥
+  unfolding Whole reading_said answer_said
+  reason_some {r} e g z =
+      let w : Whole rows d =
+      ap (λ (x : Result Reading Refusal). (reading_said x).number) e
+      ∙ ap (λ (s : Scan). (answer_said (answered r.class r.method s) r.id.bytes).number) g
+      ∙ z
+      in
+      let y : ◌≡◌ {A = Bool} true false = ap sound (sym (told w) ∙ e) ∙ ap is_ok g in
+      absurd cc
+    where
+      sound : Result Reading Refusal → Bool
+      sound (Ok r) = is_ok r.attributes
+      sound (Err r) = false
