@@ -3,7 +3,7 @@ use Rattle.std.specs.Prelude.{ℕ, Bool, true, false, ◌≡◌, refl, eqb, Resu
 use Rattle.std.proofs.Common.{sym, ap, ◌∙◌, arith, ne_eqb, eqb-true}
 use borrow.Author.Tests.{eqb-false}
 use Rattle.base.specs.Choice.{pick}
-use Rattle.wire.specs.Refusal.{by, refused_by}
+use Rattle.wire.specs.Refusal.{by, refused_by, number_of}
 use Rattle.wire.specs.declared.refusal.Refusal.{Refusal}
 
 -- a number that is not nought refuses
@@ -43,3 +43,11 @@ stands n e = go (eqb n 0) refl e
     go : (b : Bool) → eqb n 0 ≡ b → is_err (pick {A = Result Unit Refusal} b (Ok tt) (Err (by n))) ≡ false → n ≡ 0
     go true p q = eqb-true n 0 p
     go false p q = let y : ◌≡◌ {A = Bool} true false = q in absurd cc
+
+pub number_back : (n : ℕ) → number_of (refused_by n) ≡ n
+unfolding refused_by
+number_back n = go (eqb n 0) refl
+  where
+    go : (b : Bool) → eqb n 0 ≡ b → number_of (pick b (Ok tt) (Err (by n))) ≡ n
+    go true p = sym (eqb-true n 0 p)
+    go false p = refl
