@@ -1,5 +1,5 @@
 -- The loop that judges attributes: what holds at a place, and how a step carries it on. Stated once, over the fault.
-use Rattle.std.specs.Prelude.{ℕ, ◌+◌, ◌-◌, ◌≤◌, ◌<◌, List, [], ◌∷◌, ◌≡◌, refl, length, take, drop}
+use Rattle.std.specs.Prelude.{ℕ, ◌+◌, ◌-◌, ◌≤◌, ◌<◌, List, [], ◌∷◌, ◌≡◌, refl, length, take, drop, Ok}
 use Rattle.std.proofs.Math.Path.{sym, ap}
 use Rattle.std.proofs.Common.{◌∙◌, arith, eq-eqb, ne_eqb, length-append, length-take, length-drop}
 use Rattle.attribute.specs.Attribute.{Attr, stop, more, bytes_of, parse}
@@ -7,12 +7,10 @@ use Rattle.attribute.specs.Walk.{step_at}
 use Rattle.attribute.specs.Visits.{found}
 use Rattle.attribute.specs.WalkLaws.{ended, Ahead, ahead, Stops, seen}
 use Rattle.attribute.proofs.BodyLaws.{unroll, body_seen, stopped}
-use Rattle.attribute.specs.Scan.{scan, scanned}
+use Rattle.attribute.specs.Scan.{Scan, at_fault, scan, scanned}
 use Rattle.attribute.specs.Scanning.{Scanning}
 use Rattle.attribute.specs.declared.Walk.{Walk}
 use Rattle.attribute.specs.declared.Walk.TheVariants.{Attribute}
-use Rattle.attribute.specs.declared.Scan.{Scan}
-use Rattle.attribute.specs.declared.Scan.TheVariants.{Passed, Fault}
 
 pub start : (f : ℕ → Attr → ℕ) (d : List ℕ) → 20 ≤ length d → Scanning f d 20 0 (scanned f d)
 unfolding scanned
@@ -50,7 +48,7 @@ module _ {f : ℕ → Attr → ℕ} {d : List ℕ} {at n q k v s x : ℕ} {t : S
         ∙ sym (here ∙ simp (eq-eqb (f at (found d k v s x)) 0 z)) ∙ g.same;
   }
 
-  pub faulty : (f at (found d k v s x) ≡ 0 → ⊥) → Fault (f at (found d k v s x)) at ≡ t
+  pub faulty : (f at (found d k v s x) ≡ 0 → ⊥) → at_fault (f at (found d k v s x)) at ≡ t
   unfolding scan
   faulty z = sym (here ∙ simp (ne_eqb (f at (found d k v s x)) 0 z)) ∙ g.same
 
@@ -59,21 +57,21 @@ module _ {f : ℕ → Attr → ℕ} {d : List ℕ} {at n q k v s x : ℕ} {t : S
     pub on : r ≡ 0 → Scanning f d x (n + 1) t
     on y = turn (sym z ∙ y)
 
-    pub decides : (r ≡ 0 → ⊥) → Fault r at ≡ t
-    decides y = ap (λ (m : ℕ). Fault m at) z ∙ faulty (λ u. y (z ∙ u))
+    pub decides : (r ≡ 0 → ⊥) → at_fault r at ≡ t
+    decides y = ap (λ (m : ℕ). at_fault m at) z ∙ faulty (λ u. y (z ∙ u))
 
 -- where the walk stops: at the end all have passed, and before it 10 is found
-pub passed : {f : ℕ → Attr → ℕ} {d : List ℕ} {at n : ℕ} {t : Scan} → Scanning f d at n t → at ≡ length d → Passed n ≡ t
+pub passed : {f : ℕ → Attr → ℕ} {d : List ℕ} {at n : ℕ} {t : Scan} → Scanning f d at n t → at ≡ length d → Ok n ≡ t
 unfolding scan
 passed {f} {d} {at} {n} g e = sym (ap (scan f n at) (unroll (ended e))) ∙ g.same
 
-cut_scan : (f : ℕ → Attr → ℕ) (n p : ℕ) (r : List ℕ) → 0 < length r → scan f n p (stop r) ≡ Fault 10 p
+cut_scan : (f : ℕ → Attr → ℕ) (n p : ℕ) (r : List ℕ) → 0 < length r → scan f n p (stop r) ≡ at_fault 10 p
 unfolding scan
 cut_scan f n p [] h = absurd (omega arith)
 cut_scan f n p (b ∷ r) h = refl
 
 pub cut : {f : ℕ → Attr → ℕ} {d : List ℕ} {at n : ℕ} {t : Scan} {w : Walk}
-    → Scanning f d at n t → Stops w → w ≡ step_at d at → (at ≡ length d → ⊥) → Fault 10 at ≡ t
+    → Scanning f d at n t → Stops w → w ≡ step_at d at → (at ≡ length d → ⊥) → at_fault 10 at ≡ t
 cut {f} {d} {at} {n} g s e h =
     let l : 0 < length (drop at d) = simp length-drop (omega (arith, g.inside)) in
     sym (ap (scan f n at) (stopped d at s e) ∙ cut_scan f n at (drop at d) l) ∙ g.same

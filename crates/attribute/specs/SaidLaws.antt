@@ -1,13 +1,11 @@
 -- What an answer says tells it apart from every other of its kind.
-use Rattle.std.specs.Prelude.{ℕ, zero, suc, ◌≡◌, refl, get_or}
+use Rattle.std.specs.Prelude.{ℕ, zero, suc, ◌≡◌, refl, get_or, Ok, Err}
 use Rattle.base.specs.Said.{Said}
 use Rattle.base.specs.SaidLaws.{one_to_one}
 use Rattle.attribute.specs.Walk.{walk_said}
-use Rattle.attribute.specs.Scan.{scan_said}
+use Rattle.attribute.specs.Scan.{Scan, at_fault, scan_said}
 use Rattle.attribute.specs.declared.Walk.{Walk}
 use Rattle.attribute.specs.declared.Walk.TheVariants.{Attribute, End, Cut}
-use Rattle.attribute.specs.declared.Scan.{Scan}
-use Rattle.attribute.specs.declared.Scan.TheVariants.{Passed, Fault}
 
 walk_from : Said → Walk
 walk_from s = by s.kind
@@ -33,13 +31,13 @@ scan_from : Said → Scan
 scan_from s = by s.kind
   where
     by : ℕ → Scan
-    by zero = Passed (get_or s.values 0 0)
-    by (suc k) = Fault s.number (get_or s.values 0 0)
+    by zero = Ok (get_or s.values 0 0)
+    by (suc k) = at_fault s.number (get_or s.values 0 0)
 
 pub scan_one : {a b : Scan} → scan_said a ≡ scan_said b → a ≡ b
 unfolding scan_said scan_from
 scan_one = one_to_one scan_said scan_from back
   where
     back : (a : Scan) → scan_from (scan_said a) ≡ a
-    back (Passed n) = refl
-    back (Fault r p) = refl
+    back (Ok n) = refl
+    back (Err f) = refl

@@ -6,7 +6,7 @@ ghost use Rattle.attribute.specs.Attribute.{padded};
 ghost use Rattle.attribute.specs.Walk.{walk_said, step_at, walk_at};
 
 use big_endian::u16_at;
-use header::Head;
+use wire::refusal::Refusal;
 
 // What stands at a place: an attribute, whose value is `size` bytes from `value` on and whose padding ends at `next`; the end; or the cut.
 #[derive(Clone, Copy)]
@@ -26,11 +26,11 @@ pub enum Walk {
     },
 }
 
-// What judging the attributes one after the other comes to: how many passed, or the first fault with its place.
-#[derive(Clone, Copy)]
-pub enum Scan {
-    Passed { count: usize },
-    Fault { reason: u8, place: usize },
+// The first fault of attributes that are judged one after the other, and where its attribute starts.
+#[derive(Clone, Copy, Debug, PartialEq, Eq)]
+pub struct Fault {
+    pub reason: Refusal,
+    pub place: usize,
 }
 
 fn with_padding(size: usize) -> usize
@@ -72,19 +72,8 @@ pub fn step(d: &[u8], at: usize) -> Walk
 pub fn walk_at(d: &[u8], at: usize) -> Walk
     ensures { walk_said result ≡ walk_said (walk_at d.now at) }
 {
-    let h = header::header_of(d);
-    let head = h.head;
-    match head {
-        Head::Refused { number: _ } => Walk::Cut { at },
-        Head::Good {
-            class: _,
-            method: _,
-            body: _,
-        } => {
-            if at < 20 {
-                return Walk::Cut { at };
-            }
-            step(d, at)
-        }
+    if header::header_of(d).is_err() || at < 20 {
+        return Walk::Cut { at };
     }
+    step(d, at)
 }
