@@ -1,3 +1,3 @@
-mod Looking
 mod Faults
+mod Looking
 mod Determined

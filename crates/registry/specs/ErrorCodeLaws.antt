@@ -1,16 +1,16 @@
 -- The value of an ERROR-CODE is written as it was read, and read as it was written. Read without fault it is in range, and written in range
 -- it is without fault.
-use Rattle.std.specs.Prelude.{ℕ, ◌+◌, ◌*◌, ◌/◌, ◌%◌, ◌≤◌, List, [], ◌∷◌, Bool, true, false, ◌≡◌, refl, length, get_or, drop, ltb}
+use Rattle.std.specs.Prelude.{ℕ, ◌+◌, ◌*◌, ◌/◌, ◌%◌, ◌≤◌, List, [], ◌∷◌, Bool, true, false, ◌≡◌, refl, length, get_or, drop, ltb, Some}
 use Rattle.std.proofs.Common.{arith, le-ltb, ltb-false}
 use Rattle.base.specs.Bytes.{Bytes}
 use Rattle.base.specs.BytesLaws.{byte_at}
 use Rattle.base.specs.Choice.{pick}
 use Rattle.utf8_spec.specs.Utf8.{is_utf8}
 use Rattle.registry.specs.ErrorCode.{code_of, code_value}
+use Rattle.registry.specs.Rows.{row}
 use Rattle.registry.specs.Fault.{code_fault, rule_fault, entry_fault}
 use Rattle.registry.specs.declared.ErrorCode.{ErrorCode}
 use Rattle.registry.specs.declared.Rule.TheVariants.{Code}
-use Rattle.registry.specs.declared.Entry.TheVariants.{Listed}
 
 -- a value without fault has four bytes, and class and number are in range
 pub passes : (v : List ℕ) → code_fault v ≡ 0 → (4 ≤ length v) × (3 ≤ get_or v 2 0 % 8) × (get_or v 2 0 % 8 ≤ 6) × (get_or v 3 0 ≤ 99)
@@ -59,10 +59,10 @@ read_as_written e s h =
     omega (arith, low, high) in
     rw (c, r)
 
-pub value_right : (e : ErrorCode) (s : List ℕ) → 300 ≤ e.code → e.code ≤ 699 → length s ≤ 127 → is_utf8 s ≡ true
-    → entry_fault (Listed 4 131 Code) (code_value e s) ≡ 0
+pub value_right : (k : ℕ) (e : ErrorCode) (s : List ℕ) → 300 ≤ e.code → e.code ≤ 699 → length s ≤ 127 → is_utf8 s ≡ true
+    → entry_fault (Some (row k 4 131 Code)) (code_value e s) ≡ 0
 unfolding entry_fault rule_fault code_fault code_value
-value_right e s l h n t =
+value_right k e s l h n t =
     let c : (e.reserved % 32 * 8 + e.code / 100) % 8 ≡ e.code / 100 = omega arith in
     let low : 3 ≤ e.code / 100 = omega arith in
     let high : e.code / 100 ≤ 6 = omega arith in

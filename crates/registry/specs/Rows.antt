@@ -1,12 +1,10 @@
 -- The list of types: a row for each kind, with its least and greatest size and its rule (RFC 5389 section 15; docs/SCOPE.md, "The known types").
-use Rattle.std.specs.Prelude.{ℕ, List, [], ◌∷◌, eqb}
+use Rattle.std.specs.Prelude.{ℕ, List, [], ◌∷◌, eqb, Option, Some, None}
 use Rattle.base.specs.Choice.{pick}
 use Rattle.base.specs.Said.{Said, says}
 use Rattle.registry.specs.declared.Row.{Row}
 use Rattle.registry.specs.declared.Rule.{Rule}
 use Rattle.registry.specs.declared.Rule.TheVariants.{Plain, Address, XorAddress, Text, Code, Types}
-use Rattle.registry.specs.declared.Entry.{Entry}
-use Rattle.registry.specs.declared.Entry.TheVariants.{Listed, Unknown}
 
 abbrev pub row : ℕ → ℕ → ℕ → Rule → Row
 row k l g q = record { kind = k; least = l; greatest = g; rule = q }
@@ -35,20 +33,20 @@ rule_number Text = 3
 rule_number Code = 4
 rule_number Types = 5
 
--- what an answer says: listed, with the least and the greatest size and the rule, or unknown
-unfoldable pub entry_said : Entry → Said
-entry_said (Listed l g q) = says 0 0 (l ∷ g ∷ rule_number q ∷ [])
-entry_said Unknown = says 1 0 []
+-- what an answer says: the row of a type that is listed, or that it isn't
+unfoldable pub entry_said : Option Row → Said
+entry_said (Some r) = says 0 0 (r.kind ∷ r.least ∷ r.greatest ∷ rule_number r.rule ∷ [])
+entry_said None = says 1 0 []
 
--- what a list says of a type; a type that it doesn't have is unknown
-unfoldable pub look : List Row → ℕ → Entry
-look [] k = Unknown
-look (r ∷ rs) k = pick (eqb r.kind k) (Listed r.least r.greatest r.rule) (look rs k)
+-- what a list says of a type
+unfoldable pub look : List Row → ℕ → Option Row
+look [] k = None
+look (r ∷ rs) k = pick (eqb r.kind k) (Some r) (look rs k)
 
--- the rule of an entry: an unknown type is plain
-unfoldable pub rule_in : Entry → Rule
-rule_in (Listed l g q) = q
-rule_in Unknown = Plain
+-- the rule of an entry: a type that isn't listed is plain
+unfoldable pub rule_in : Option Row → Rule
+rule_in (Some r) = r.rule
+rule_in None = Plain
 
 abbrev pub rule_of : List Row → ℕ → Rule
 rule_of rows k = rule_in (look rows k)

@@ -1,13 +1,12 @@
 -- What an answer says tells it apart from every other of its kind.
-use Rattle.std.specs.Prelude.{ℕ, zero, suc, ◌≡◌, refl, get_or}
+use Rattle.std.specs.Prelude.{ℕ, zero, suc, ◌≡◌, refl, get_or, Option, Some, None}
 use Rattle.std.proofs.Common.{sym, ap, ◌∙◌}
 use Rattle.base.specs.Said.{Said}
 use Rattle.base.specs.SaidLaws.{one_to_one}
 use Rattle.registry.specs.Rows.{rule_number, entry_said}
 use Rattle.registry.specs.declared.Rule.{Rule}
 use Rattle.registry.specs.declared.Rule.TheVariants.{Plain, Address, XorAddress, Text, Code, Types}
-use Rattle.registry.specs.declared.Entry.{Entry}
-use Rattle.registry.specs.declared.Entry.TheVariants.{Listed, Unknown}
+use Rattle.registry.specs.declared.Row.{Row}
 
 rule_numbered : ℕ → Rule
 rule_numbered zero = Plain
@@ -29,17 +28,20 @@ numbered_back Types = refl
 pub rule_one : {a b : Rule} → rule_number a ≡ rule_number b → a ≡ b
 rule_one {a} {b} e = sym (numbered_back a) ∙ ap rule_numbered e ∙ numbered_back b
 
-entry_from : Said → Entry
+entry_from : Said → Option Row
 entry_from s = by s.kind
   where
-    by : ℕ → Entry
-    by zero = Listed (get_or s.values 0 0) (get_or s.values 1 0) (rule_numbered (get_or s.values 2 0))
-    by (suc k) = Unknown
+    value : ℕ → ℕ
+    value i = get_or s.values i 0
 
-pub entry_one : {a b : Entry} → entry_said a ≡ entry_said b → a ≡ b
+    by : ℕ → Option Row
+    by zero = Some (record { kind = value 0; least = value 1; greatest = value 2; rule = rule_numbered (value 3) })
+    by (suc k) = None
+
+pub entry_one : {a b : Option Row} → entry_said a ≡ entry_said b → a ≡ b
 unfolding entry_said entry_from
 entry_one = one_to_one entry_said entry_from back
   where
-    back : (a : Entry) → entry_from (entry_said a) ≡ a
-    back (Listed l g q) = ap (λ (r : Rule). Listed l g r) (numbered_back q)
-    back Unknown = refl
+    back : (a : Option Row) → entry_from (entry_said a) ≡ a
+    back (Some r) = ap (λ (q : Rule). Some (record { kind = r.kind; least = r.least; greatest = r.greatest; rule = q })) (numbered_back r.rule)
+    back None = refl

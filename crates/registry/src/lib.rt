@@ -3,7 +3,10 @@
 
 ghost use Rattle.std.specs.Prelude.{◌≡◌};
 ghost use Rattle.registry.specs.Rows.{rule_number, entry_said, rule_in, look, rfc5389};
-ghost use Rattle.registry.specs.Fault.{address_fault, code_fault, rule_fault, entry_fault, fault};
+ghost use Rattle.registry.specs.Fault.{address_fault, text_fault, types_fault, code_fault, rule_fault, entry_fault, fault};
+ghost use Rattle.wire.specs.Refusal.{refused_by};
+
+use wire::refusal::Refusal;
 
 pub mod errors;
 pub mod methods;
@@ -106,142 +109,96 @@ pub const ROWS: [Row; KINDS] = [
     },
 ];
 
-// What the list says of a type.
-#[derive(Clone, Copy)]
-pub enum Entry {
-    Listed {
-        least: u16,
-        greatest: u16,
-        rule: Rule,
-    },
-    Unknown,
-}
-
-pub fn entry_of(kind: u16) -> Entry
+// What the list says of a type, where it has it.
+pub fn entry_of(kind: u16) -> Option<Row>
     ensures { entry_said result ≡ entry_said (look rfc5389 kind) }
 {
-    let rows = ROWS;
-    let mut i = 0;
-    while i < KINDS {
-        let row = rows[i];
-        if row.kind == kind {
-            let rule = row.rule;
-            return Entry::Listed {
-                least: row.least,
-                greatest: row.greatest,
-                rule,
-            };
-        }
-        i += 1;
-    }
-    Entry::Unknown
+    ROWS.iter().find(|row| row.kind == kind).copied()
 }
 
 // The rule of an entry; a type that the list doesn't have is plain.
-pub fn entry_rule(entry: Entry) -> Rule
+pub fn entry_rule(entry: Option<Row>) -> Rule
     ensures { rule_number result ≡ rule_number (rule_in entry) }
 {
     match entry {
-        Entry::Unknown => Rule::Plain,
-        Entry::Listed {
-            least: _,
-            greatest: _,
-            rule,
-        } => rule,
+        None => Rule::Plain,
+        Some(row) => row.rule,
     }
 }
 
 // Family 1 goes with 8 bytes and family 2 with 20.
-fn address_fault(value: &[u8]) -> u8
-    ensures { result ≡ address_fault value.now }
+fn address_fault(value: &[u8]) -> Result<(), Refusal>
+    ensures { result ≡ refused_by (address_fault value.now) }
 {
-    let size = value.len();
-    if size == 8 {
-        if value[1] == 1 {
-            return 0;
-        }
-        return 12;
+    match value.len() {
+        8 if value[1] == 1 => Ok(()),
+        20 if value[1] == 2 => Ok(()),
+        8 | 20 => Err(Refusal::FAMILY),
+        _ => Err(Refusal::SIZE),
     }
-    if size == 20 {
-        if value[1] == 2 {
-            return 0;
-        }
-        return 12;
+}
+
+fn text_fault(text: &[u8]) -> Result<(), Refusal>
+    ensures { result ≡ refused_by (text_fault text.now) }
+{
+    if !utf8::is_utf8(text) {
+        return Err(Refusal::TEXT);
     }
-    11
+    Ok(())
 }
 
 // Class 3 to 6 and number 0 to 99, before a phrase in UTF-8.
-fn code_fault(value: &[u8]) -> u8
-    ensures { result ≡ code_fault value.now }
+fn code_fault(value: &[u8]) -> Result<(), Refusal>
+    ensures { result ≡ refused_by (code_fault value.now) }
 {
     if value.len() < 4 {
-        return 11;
+        return Err(Refusal::SIZE);
     }
     let class = value[2] % 8;
-    if class < 3 {
-        return 13;
+    if class < 3 || 6 < class || 99 < value[3] {
+        return Err(Refusal::CODE);
     }
-    if 6 < class {
-        return 13;
-    }
-    if 99 < value[3] {
-        return 13;
-    }
-    if utf8::is_utf8(&value[4..]) {
-        return 0;
-    }
-    14
+    text_fault(&value[4..])
 }
 
-fn rule_fault(rule: Rule, value: &[u8]) -> u8
-    ensures { result ≡ rule_fault rule value.now }
+fn types_fault(types: &[u8]) -> Result<(), Refusal>
+    ensures { result ≡ refused_by (types_fault types.now) }
+{
+    if types.len() % 2 != 0 {
+        return Err(Refusal::SIZE);
+    }
+    Ok(())
+}
+
+fn rule_fault(rule: Rule, value: &[u8]) -> Result<(), Refusal>
+    ensures { result ≡ refused_by (rule_fault rule value.now) }
 {
     match rule {
-        Rule::Plain => 0,
-        Rule::Address => address_fault(value),
-        Rule::XorAddress => address_fault(value),
+        Rule::Plain => Ok(()),
+        Rule::Address | Rule::XorAddress => address_fault(value),
         Rule::Code => code_fault(value),
-        Rule::Types => {
-            if value.len() % 2 == 0 {
-                return 0;
-            }
-            11
-        }
-        Rule::Text => {
-            if utf8::is_utf8(value) {
-                return 0;
-            }
-            14
-        }
+        Rule::Types => types_fault(value),
+        Rule::Text => text_fault(value),
     }
 }
 
-// What is wrong with a value by its type's entry: 0, or the first of 11, 12, 13 and 14 that applies.
-pub fn entry_fault(entry: Entry, value: &[u8]) -> u8
-    ensures { result ≡ entry_fault entry value.now }
+// What is wrong with a value by its type's entry: nothing, or the first of 11, 12, 13 and 14 that applies.
+pub fn entry_fault(entry: Option<Row>, value: &[u8]) -> Result<(), Refusal>
+    ensures { result ≡ refused_by (entry_fault entry value.now) }
 {
-    match entry {
-        Entry::Unknown => 0,
-        Entry::Listed {
-            least,
-            greatest,
-            rule,
-        } => {
-            if value.len() < least as usize {
-                return 11;
-            }
-            if (greatest as usize) < value.len() {
-                return 11;
-            }
-            rule_fault(rule, value)
-        }
+    let Some(row) = entry else {
+        return Ok(());
+    };
+    let size = value.len();
+    if size < row.least as usize || (row.greatest as usize) < size {
+        return Err(Refusal::SIZE);
     }
+    rule_fault(row.rule, value)
 }
 
 // The same by the type.
-pub fn fault(kind: u16, value: &[u8]) -> u8
-    ensures { result ≡ fault rfc5389 kind value.now }
+pub fn fault(kind: u16, value: &[u8]) -> Result<(), Refusal>
+    ensures { result ≡ refused_by (fault rfc5389 kind value.now) }
 {
     entry_fault(entry_of(kind), value)
 }

@@ -1,14 +1,20 @@
-use Rattle.registry.proofs.Faults.{unknown, too_short, too_long, by_rule}
+use Rattle.std.proofs.Common.{◌∙◌, lt-ltb, le-ltb}
+use Rattle.wire.specs.Refusal.{refused_by}
+use Rattle.registry.specs.Fault.{entry_fault}
+use Rattle.registry.proofs.entry_fault.Goals.{then-size-row-via-then-size-row, then-size-row-via-else-size-row+then-row-size}
 use Rattle.registry.proofs.entry_fault.Goals as goal
 
-pub returns-then-value-least : goal.returns-then-value-least
-returns-then-value-least c = search (unknown, too_short, too_long, by_rule)
+pub returns-in_default : goal.returns-in_default
+unfolding refused_by entry_fault
+returns-in_default c = rw c.in_default.is
 
-pub returns-then-greatest-value : goal.returns-then-greatest-value
-returns-then-greatest-value c = search (unknown, too_short, too_long, by_rule)
+pub returns-then-size-row : goal.returns-then-size-row
+unfolding refused_by entry_fault
+returns-then-size-row c = rw c.in-Some.is (elim c.then-size-row.branch [
+  | then-size-row-via-then-size-row w ↦ simp (lt-ltb _ _ w.if-size-row.true)
+  | then-size-row-via-else-size-row+then-row-size w ↦ simp (le-ltb _ _ w.if-size-row.false, lt-ltb _ _ w.if-row-size.true)
+])
 
-pub returns-in-Unknown : goal.returns-in-Unknown
-returns-in-Unknown c = search (unknown, too_short, too_long, by_rule)
-
-pub returns-else-greatest-value : goal.returns-else-greatest-value
-returns-else-greatest-value c = search (unknown, too_short, too_long, by_rule)
+pub returns : goal.returns
+unfolding entry_fault
+returns c = c.rule_fault.ensures ∙ rw c.in-Some.is (simp (le-ltb _ _ c.if-size-row.false, le-ltb _ _ c.if-row-size.false))

@@ -1,26 +1,24 @@
-use Rattle.registry.proofs.Faults.{rule_plain, rule_address, rule_xor, rule_code, rule_even, rule_odd, rule_text, rule_no_text}
+use mathlib.Core.Logic.{⊎_elim}
+use Rattle.wire.specs.Refusal.{refused_by}
+use Rattle.registry.specs.Fault.{rule_fault}
 use Rattle.registry.proofs.rule_fault.Goals as goal
 
-pub returns-then-value-eq0 : goal.returns-then-value-eq0
-returns-then-value-eq0 c = search (rule_plain, rule_address, rule_xor, rule_code, rule_even, rule_odd, rule_text, rule_no_text)
-
-pub returns-then-is_utf8 : goal.returns-then-is_utf8
-returns-then-is_utf8 c = search (rule_plain, rule_address, rule_xor, rule_code, rule_even, rule_odd, rule_text, rule_no_text)
-
 pub returns-in-Plain : goal.returns-in-Plain
-returns-in-Plain c = search (rule_plain, rule_address, rule_xor, rule_code, rule_even, rule_odd, rule_text, rule_no_text)
+unfolding refused_by rule_fault
+returns-in-Plain c = rw c.in-Plain.is
 
 pub returns-in-Address : goal.returns-in-Address
-returns-in-Address c = search (rule_plain, rule_address, rule_xor, rule_code, rule_even, rule_odd, rule_text, rule_no_text)
-
-pub returns-in-XorAddress : goal.returns-in-XorAddress
-returns-in-XorAddress c = search (rule_plain, rule_address, rule_xor, rule_code, rule_even, rule_odd, rule_text, rule_no_text)
+unfolding rule_fault
+returns-in-Address c = ⊎_elim (λ e. rw e c.address_fault.ensures) (λ e. rw e c.address_fault.ensures) c.in-Address.is
 
 pub returns-in-Code : goal.returns-in-Code
-returns-in-Code c = search (rule_plain, rule_address, rule_xor, rule_code, rule_even, rule_odd, rule_text, rule_no_text)
+unfolding rule_fault
+returns-in-Code c = rw c.in-Code.is c.code_fault.ensures
 
-pub returns-else-value-eq0 : goal.returns-else-value-eq0
-returns-else-value-eq0 c = search (rule_plain, rule_address, rule_xor, rule_code, rule_even, rule_odd, rule_text, rule_no_text)
+pub returns-in-Types : goal.returns-in-Types
+unfolding rule_fault
+returns-in-Types c = rw c.in-Types.is c.types_fault.ensures
 
-pub returns-else-is_utf8 : goal.returns-else-is_utf8
-returns-else-is_utf8 c = search (rule_plain, rule_address, rule_xor, rule_code, rule_even, rule_odd, rule_text, rule_no_text)
+pub returns-in-Text : goal.returns-in-Text
+unfolding rule_fault
+returns-in-Text c = rw c.in-Text.is c.text_fault.ensures
