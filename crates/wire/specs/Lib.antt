@@ -1,4 +1,5 @@
 pub mod Refusal
+pub mod RefusalLaws
 pub mod TypeNumber
 pub mod TypeLaws
 pub mod SaidLaws

@@ -5,6 +5,7 @@ use borrow.Author.Tests.{eqb-false}
 use Rattle.base.specs.Choice.{pick}
 use Rattle.big_endian.specs.Numbers.{be16}
 use Rattle.wire.specs.Refusal.{by, refused_by}
+use Rattle.wire.specs.RefusalLaws.{refusing, passing}
 use Rattle.wire.specs.declared.refusal.Refusal.{Refusal}
 use Rattle.attribute.specs.Attribute.{padded}
 use Rattle.write_plan.specs.Plan.{message_fault, body_at, body_with, plan_of}
@@ -35,27 +36,6 @@ not_there d {r} e = go (eqb (message_fault d) 0) refl e
     go true p f = let z : ◌≡◌ {A = ℕ} 0 1 = cc in absurd (omega arith)
     go false p f = record { none = eqb-false (message_fault d) 0 p; refusal = cc }
 
--- and where a number refuses, and where not
-record Wrong (f : ℕ) (r : Refusal) : Type 0 where
-  some : f ≡ 0 → ⊥
-  refusal : r ≡ by f
-
-is_wrong : (f : ℕ) {r : Refusal} → refused_by f ≡ Err r → Wrong f r
-unfolding refused_by
-is_wrong f {r} e = go (eqb f 0) refl e
-  where
-    go : (q : Bool) → eqb f 0 ≡ q → ◌≡◌ {A = Result Unit Refusal} (pick q (Ok tt) (Err (by f))) (Err r) → Wrong f r
-    go true p g = let z : ◌≡◌ {A = ℕ} 0 1 = cc in absurd (omega arith)
-    go false p g = record { some = eqb-false f 0 p; refusal = cc }
-
-is_right : (f : ℕ) {u : Unit} → refused_by f ≡ Ok u → f ≡ 0
-unfolding refused_by
-is_right f {u} e = go (eqb f 0) refl e
-  where
-    go : (q : Bool) → eqb f 0 ≡ q → ◌≡◌ {A = Result Unit Refusal} (pick q (Ok tt) (Err (by f))) (Ok u) → f ≡ 0
-    go true p g = eqb-true f 0 p
-    go false p g = let z : ◌≡◌ {A = ℕ} 0 1 = cc in absurd (omega arith)
-
 module _ (d : List ℕ) (f n m : ℕ) {x : Result ℕ Refusal} (e : x ≡ body_at d) where
   pub at_21 : {r : Refusal} → x ≡ Err r → Err r ≡ plan_of d f n m
   at_21 g = let t = not_there d (sym e ∙ g) in ap (λ (r : Refusal). Err r) t.refusal ∙ plan_is (no_message t.none)
@@ -65,11 +45,11 @@ module _ (d : List ℕ) (f n m : ℕ) {x : Result ℕ Refusal} (e : x ≡ body_a
     message = there d (sym e ∙ g)
 
     pub at_23 : {r : Refusal} → y ≡ Err r → Err r ≡ plan_of d f n m
-    at_23 i = let w = is_wrong f (sym h ∙ i) in ap (λ (r : Refusal). Err r) w.refusal ∙ plan_is (wrong message.message w.some)
+    at_23 i = let w = refusing f (sym h ∙ i) in ap (λ (r : Refusal). Err r) w.refusal ∙ plan_is (wrong message.message w.some)
 
     module _ {u : Unit} (i : y ≡ Ok u) where
       right : f ≡ 0
-      right = is_right f (sym h ∙ i)
+      right = passing f (sym h ∙ i)
 
       pub at_24 : (m ≡ (4 - n % 4) % 4 → ⊥) → Err (by 24) ≡ plan_of d f n m
       at_24 p = plan_is (padding message.message right (λ z. p (omega arith)))
