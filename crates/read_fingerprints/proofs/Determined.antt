@@ -1,10 +1,10 @@
 -- The contract of the public call determines what it answers.
 use Prim.Native.Nat.{ℕ}
 use mathlib.Core.List.{List}
+use Rattle.attribute.specs.Scan.{Scan}
 use Rattle.base.specs.DeterminedLaws.{by}
 use Rattle.base.specs.Determined.{Determines}
 use Rattle.attribute.specs.SaidLaws.{scan_one}
-use Rattle.attribute.specs.declared.Scan.{Scan}
 use Rattle.read_fingerprints.specs.Fingerprints.{prints_from}
 use Rattle.read_fingerprints.proofs.prints_from.Kinds as prints_kinds
 use Rattle.read_fingerprints.proofs.prints_from.Reads as prints_reads

@@ -11,6 +11,7 @@ use Rattle.base.specs.SameLaws.{same_eq, same_refl}
 use Rattle.base.specs.Same.{same}
 use Rattle.big_endian.specs.Numbers.{be32, four}
 use Rattle.big_endian.specs.NumbersLaws.{be32_bytes, bytes_be32}
+use Rattle.wire.specs.Refusal.{by}
 use Rattle.fingerprint.specs.Fingerprint.{printed}
 use Rattle.read_fingerprints.specs.Fingerprints.{print_fault}
 
@@ -57,3 +58,6 @@ module _ (d : List ℕ) (p k n : ℕ) (e : k ≡ 0x8028) (o : n ≡ 4) {b : Bool
 
   pub wrong : b ≡ false → 15 ≡ print_fault d p k (take n (drop (p + 4) d))
   wrong c = sym (ap (λ (z : Bool). pick z 0 15) c) ∙ judged
+
+pub at_15 : {n : ℕ} → 15 ≡ n → (by 15 ≡ by n) × (n ≡ 0 → ⊥)
+at_15 e = (ap by e, λ z. let y : ◌≡◌ {A = ℕ} 15 0 = e ∙ z in absurd (omega arith))

@@ -4,8 +4,7 @@ use Rattle.base.specs.Choice.{pick}
 use Rattle.base.specs.Same.{same}
 use Rattle.big_endian.specs.Numbers.{four}
 use Rattle.attribute.specs.Attribute.{Attr, parse}
-use Rattle.attribute.specs.Scan.{scan, scanned}
-use Rattle.attribute.specs.declared.Scan.{Scan}
+use Rattle.attribute.specs.Scan.{Scan, scan, scanned}
 use Rattle.fingerprint.specs.Fingerprint.{printed}
 
 -- a FINGERPRINT at p: 15 where its value differs from the sum owed there

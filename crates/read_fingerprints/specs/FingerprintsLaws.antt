@@ -2,9 +2,8 @@
 use Rattle.std.specs.Prelude.{ℕ, ◌≤◌, ◌<◌, List, ◌≡◌, length}
 use Rattle.std.proofs.Common.{sym, ◌∙◌}
 use borrow.Author.Tests.{le-leb, lt-leb}
-use Rattle.attribute.specs.Scan.{scanned}
+use Rattle.attribute.specs.Scan.{Scan, scanned}
 use Rattle.attribute.specs.Scanning.{Scanning}
-use Rattle.attribute.specs.declared.Scan.{Scan}
 use Rattle.read_fingerprints.specs.Fingerprints.{print_faults, on_from, prints_from}
 
 module _ (d : List ℕ) (p n : ℕ) where

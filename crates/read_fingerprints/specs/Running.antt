@@ -1,7 +1,9 @@
 -- The register on its way over a datagram, from FINGERPRINT to FINGERPRINT.
-use Rattle.std.specs.Prelude.{ℕ, ◌≤◌, ◌<◌, List, ◌≡◌}
+use Rattle.std.specs.Prelude.{ℕ, ◌≤◌, ◌<◌, List, ◌≡◌, Result, Ok, Err}
 use Rattle.std.specs.Int.Bits.{bit_xor}
 use Rattle.crc.specs.Octets.{octets, times}
+use Rattle.wire.specs.Refusal.{by}
+use Rattle.wire.specs.declared.refusal.Refusal.{Refusal}
 use Rattle.fingerprint.specs.Register.{register, field}
 use Rattle.read_fingerprints.specs.declared.Running.{Running}
 
@@ -23,3 +25,8 @@ pub record Ran (d : List ℕ) (r : Running) (p : ℕ) : Type 0 where
   pub right : r ≡ running_at d r.upto r.length
   pub behind : r.upto ≤ p
   pub short : r.length < 65536
+
+-- an attribute at p of which n is the fault: the register goes on where there is none, else the number is answered
+abbrev pub Judged : List ℕ → ℕ → ℕ → Result Running Refusal → Type 0
+Judged d p n (Ok r) = (n ≡ 0) × Ran d r p
+Judged d p n (Err f) = (f ≡ by n) × (n ≡ 0 → ⊥)

@@ -10,12 +10,13 @@ ghost use Rattle.crc.specs.Octets.{word};
 ghost use Rattle.crc_byte_tables.specs.Tables.{Steps};
 ghost use Rattle.fingerprint.specs.Fingerprint.{printed};
 ghost use Rattle.fingerprint.specs.Register.{field};
-ghost use Rattle.read_fingerprints.specs.Running.{running_at, relength_of, Ran};
+ghost use Rattle.read_fingerprints.specs.Running.{running_at, relength_of, Ran, Judged};
 ghost use Rattle.read_fingerprints.specs.Fingerprints.{print_fault, print_faults, on_from, prints_from};
 
-use attribute::{Scan, Walk, step};
+use attribute::{Fault, Walk, step};
 use big_endian::u32_at;
 use fingerprint::{FINGERPRINT, fingerprint_at};
+use wire::refusal::Refusal;
 
 // The register over the first `upto` bytes, with `length` in the length field, and what so many bytes that are nought make of
 // 0x8000_0000: so each FINGERPRINT goes on where the one before it stopped.
@@ -31,13 +32,6 @@ struct Running {
 #[derive(Clone, Copy)]
 struct Summed {
     value: u32,
-    run: Running,
-}
-
-// What is wrong with an attribute as a FINGERPRINT, and how far the register has gone.
-#[derive(Clone, Copy)]
-struct Verdict {
-    fault: u8,
     run: Running,
 }
 
@@ -245,28 +239,33 @@ fn is_there(d: &[u8], at: usize, x: u32) -> bool
     false
 }
 
-// What is wrong with the attribute at p as a FINGERPRINT: 0 or 15; 0 where it is none.
-fn print_fault(t: &[u32], d: &[u8], run: Running, p: usize, kind: u16, size: usize) -> Verdict
+// Judges the attribute at p as a FINGERPRINT: how far the register has gone, or 15. One that is none passes.
+fn print_fault(
+    t: &[u32],
+    d: &[u8],
+    run: Running,
+    p: usize,
+    kind: u16,
+    size: usize,
+) -> Result<Running, Refusal>
     requires { Steps t.now × Ran d.now run p × (20 ≤ p) × (p + 4 + size ≤ length d.now) }
-    ensures fault { result.fault ≡ print_fault d.now p kind (take size (drop (p + 4) d.now)) }
-    ensures run { Ran d.now result.run p }
+    ensures { Judged d.now p (print_fault d.now p kind (take size (drop (p + 4) d.now))) result }
 {
     if kind != FINGERPRINT {
-        return Verdict { fault: 0, run };
+        return Ok(run);
     }
     if size != 4 {
-        return Verdict { fault: 15, run };
+        return Err(Refusal::FINGERPRINT);
     }
     let s = sum_at(t, d, run, p);
-    let run = s.run;
     if is_there(d, p + 4, s.value) {
-        return Verdict { fault: 0, run };
+        return Ok(s.run);
     }
-    Verdict { fault: 15, run }
+    Err(Refusal::FINGERPRINT)
 }
 
 // Each FINGERPRINT from a place on.
-fn judge_each(t: &[u32], d: &[u8], from: usize, before: usize) -> Scan
+fn judge_each(t: &[u32], d: &[u8], from: usize, before: usize) -> Result<usize, Fault>
     requires { Steps t.now × (20 ≤ from) × (from ≤ length d.now) × (before ≤ from) }
     ensures { result ≡ on_from d.now from before }
 {
@@ -279,37 +278,31 @@ fn judge_each(t: &[u32], d: &[u8], from: usize, before: usize) -> Scan
         power: 0x8000_0000,
     };
     loop {
-        let w = step(d, at);
         let Walk::Attribute {
-            at: _,
             kind,
-            value: _,
             size,
             next,
-        } = w
+            ..
+        } = step(d, at)
         else {
             if at == d.len() {
-                return Scan::Passed { count };
+                return Ok(count);
             }
-            return Scan::Fault {
-                reason: 10,
+            return Err(Fault {
+                reason: Refusal::CUT,
                 place: at,
-            };
+            });
         };
-        let v = print_fault(t, d, run, at, kind, size);
-        if v.fault != 0 {
-            return Scan::Fault {
-                reason: v.fault,
-                place: at,
-            };
+        match print_fault(t, d, run, at, kind, size) {
+            Ok(there) => run = there,
+            Err(reason) => return Err(Fault { reason, place: at }),
         }
-        run = v.run;
         count += 1;
         at = next;
     }
 }
 
-fn judge_few(d: &[u8], from: usize, before: usize) -> Scan
+fn judge_few(d: &[u8], from: usize, before: usize) -> Result<usize, Fault>
     requires { (20 ≤ from) × (from ≤ length d.now) × (before ≤ from) }
     ensures { result ≡ on_from d.now from before }
 {
@@ -318,7 +311,7 @@ fn judge_few(d: &[u8], from: usize, before: usize) -> Scan
 }
 
 // Making a table pays where more than one FINGERPRINT may follow, and making a large one where very many may.
-fn judge_from(d: &[u8], from: usize, before: usize) -> Scan
+fn judge_from(d: &[u8], from: usize, before: usize) -> Result<usize, Fault>
     requires { (20 ≤ from) × (from ≤ length d.now) × (before ≤ from) }
     ensures { result ≡ on_from d.now from before }
 {
@@ -355,11 +348,11 @@ fn starting(d: &[u8], from: usize, before: usize) -> Place
 }
 
 // Each FINGERPRINT from a place on, before which so many attributes stand. That both can be is tested, so that nothing is required.
-pub fn prints_from(d: &[u8], from: usize, before: usize) -> Scan
+pub fn prints_from(d: &[u8], from: usize, before: usize) -> Result<usize, Fault>
     ensures { scan_said result ≡ scan_said (prints_from d.now from before) }
 {
     if d.len() < 20 {
-        return Scan::Passed { count: 0 };
+        return Ok(0);
     }
     let p = starting(d, from, before);
     judge_from(d, p.at, p.count)

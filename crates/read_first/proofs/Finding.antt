@@ -1,42 +1,42 @@
 -- What `find` and `has` return, case by case.
-use Prim.Native.Nat.{ℕ}
-use mathlib.Core.List.{List}
-use mathlib.Core.Bool.{true, false}
-use mathlib.Core.Path.{◌≡◌, sym, ap, ◌∙◌}
+use Rattle.std.specs.Prelude.{ℕ, List, Bool, true, false, ◌≡◌, refl, Result, Ok, Err, Option, Some, None, is_ok, is_some}
+use Rattle.std.proofs.Common.{sym, ap, ◌∙◌}
 use Rattle.base.specs.Choice.{pick}
-use Rattle.wire.specs.declared.method.Method.{Method}
-use Rattle.wire.specs.declared.types.MessageClass.{MessageClass}
+use Rattle.wire.specs.declared.refusal.Refusal.{Refusal}
+use Rattle.attribute.specs.Scan.{Scan}
 use Rattle.registry.specs.Rows.{rfc5389}
-use Rattle.read_message.specs.Reading.{reading_of}
-use Rattle.read_message.specs.declared.Answer.{Answer}
-use Rattle.read_message.specs.declared.Answer.TheVariants.{Whole, Broken, Refused}
+use Rattle.read_message.specs.Reading.{answered, answer_of, reading_of}
 use Rattle.read_message.specs.declared.Reading.{Reading}
-use Rattle.read_first.specs.declared.First.{First}
-use Rattle.read_first.specs.declared.First.TheVariants.{Found, Absent}
-use Rattle.read_first.specs.First.{none, first_in, whole_by, is_whole, first, placed, is_there}
-use Rattle.read_first.proofs.FirstLaws.{part, absent}
+use Rattle.read_first.specs.declared.Found.{Found}
+use Rattle.read_first.specs.First.{Place, none, starts, first_in, whole_by, is_whole, first, placed, is_there}
 
-module _ (d : List ℕ) (k : ℕ) {r : Reading} (e : r ≡ reading_of rfc5389 d) where
-  by_answer : {a : Answer} → r.answer ≡ a → first rfc5389 k d ≡ pick (whole_by a) (first_in k d) none
+module _ (d : List ℕ) (k : ℕ) {w : Result Reading Refusal} (e : w ≡ reading_of rfc5389 d) where
+  by_answer : first rfc5389 k d ≡ pick (whole_by (answer_of w)) (first_in k d) none
   unfolding first is_whole
-  by_answer f = ap (λ (x : Answer). pick (whole_by x) (first_in k d) none) (sym (ap (λ (x : Reading). x.answer) e) ∙ f)
+  by_answer = ap (λ (x : Result Reading Refusal). pick (whole_by (answer_of x)) (first_in k d) none) (sym e)
 
-  pub whole : {c : MessageClass} {m : Method} {n : ℕ} {f : First} → r.answer ≡ Whole c m n → f ≡ placed (first_in k d) → f ≡ placed (first rfc5389 k d)
-  whole g h = h ∙ ap placed (sym (by_answer g))
+  -- where the attributes all pass, and where they don't
+  module _ {r : Reading} (g : w ≡ Ok r) where
+    with : first rfc5389 k d ≡ pick (whole_by (answered r.class r.method r.attributes)) (first_in k d) none
+    with = by_answer ∙ ap (λ (x : Result Reading Refusal). pick (whole_by (answer_of x)) (first_in k d) none) g
 
-  pub broken : {c : MessageClass} {m : Method} {n p : ℕ} → r.answer ≡ Broken c m n p → Absent ≡ placed (first rfc5389 k d)
+    judged : (s : Scan) (b : Bool) → is_ok s ≡ b → whole_by (answered r.class r.method s) ≡ b
+    judged (Ok n) b f = f
+    judged (Err x) b f = f
+
+    pub whole : {f : Option Found} → is_ok r.attributes ≡ true → f ≡ placed (first_in k d) → f ≡ placed (first rfc5389 k d)
+    whole i h = h ∙ ap placed (sym (with ∙ ap (λ (b : Bool). pick b (first_in k d) none) (judged r.attributes true i)))
+
+    pub broken : is_ok r.attributes ≡ false → None ≡ placed (first rfc5389 k d)
+    unfolding placed
+    broken i = ap placed (sym (with ∙ ap (λ (b : Bool). pick b (first_in k d) none) (judged r.attributes false i)))
+
+  pub refused : {r : Refusal} → w ≡ Err r → None ≡ placed (first rfc5389 k d)
   unfolding placed
-  broken g = ap placed (sym (by_answer g))
+  refused g = ap placed (sym (by_answer ∙ ap (λ (x : Result Reading Refusal). pick (whole_by (answer_of x)) (first_in k d) none) g))
 
-  pub refused : {n : ℕ} → r.answer ≡ Refused n → Absent ≡ placed (first rfc5389 k d)
-  unfolding placed
-  refused g = ap placed (sym (by_answer g))
-
-module _ (d : List ℕ) (k : ℕ) {f : First} (e : f ≡ placed (first rfc5389 k d)) where
-  pub has_none : f ≡ Absent → false ≡ is_there (first rfc5389 k d)
-  unfolding is_there
-  has_none g = ap is_there (sym (absent (first rfc5389 k d) e g))
-
-  module _ {p n : ℕ} (g : f ≡ Found p n) where
-    pub has_one : true ≡ is_there (first rfc5389 k d)
-    has_one = sym (part d k rfc5389 e g).there
+-- told of, and there
+pub has_one : (x : Place) → is_some (placed x) ≡ is_there x
+unfolding placed is_there
+has_one none = refl
+has_one (starts p a) = refl

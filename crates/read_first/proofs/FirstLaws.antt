@@ -1,6 +1,6 @@
 -- What is known of an attribute that was found, and of one that was told by its place and size.
 use Prim.Native.Nat.{ℕ, ◌+◌, ◌-◌, ◌≤◌}
-use Rattle.std.specs.Prelude.{List, [], ◌∷◌, Bool, true, false, ◌≡◌, refl, length, take, drop, eqb}
+use Rattle.std.specs.Prelude.{List, [], ◌∷◌, Bool, true, false, ◌≡◌, refl, length, get_or, take, drop, eqb, Option, Some, None}
 use Rattle.std.proofs.Common.{sym, ◌∙◌, subst, arith, eqb-true, length-take, length-drop}
 use Rattle.std.proofs.Math.Path.{ap}
 use Rattle.base.specs.Choice.{pick}
@@ -11,9 +11,8 @@ use Rattle.attribute.specs.Visits as visits
 use Rattle.attribute.proofs.ScanLaws.{found_length}
 use Rattle.attribute.specs.declared.Walk.{Walk}
 use Rattle.registry.specs.declared.Row.{Row}
-use Rattle.read_first.specs.declared.First.{First}
-use Rattle.read_first.specs.declared.First.TheVariants.{Found, Absent}
-use Rattle.read_first.specs.First.{Place, none, starts, first_from, first_in, is_whole, first, placed, is_there, value_of, value_at}
+use Rattle.read_first.specs.declared.Found.{Found}
+use Rattle.read_first.specs.First.{Place, none, starts, first_from, first_in, is_whole, first, first_said, placed, is_there, value_of, value_at}
 
 -- it has the type, and its value stands four bytes behind its place
 pub record Lies (d : List ℕ) (k p : ℕ) (a : Attr) : Type 0 where
@@ -101,12 +100,14 @@ pub record Told (x : Place) (p n : ℕ) : Type 0 where
   pub is : x ≡ starts p attr
   pub size : length attr.value ≡ n
 
-told_of : (x : Place) {p n : ℕ} → placed x ≡ Found p n → Told x p n
-unfolding placed
+told_of : (x : Place) {p n : ℕ} → placed x ≡ Some (record { at = p; size = n }) → Told x p n
+unfolding placed first_said
 told_of none e = let z : ◌≡◌ {A = ℕ} 0 1 = cc in absurd (omega arith)
-told_of (starts q a) e = record { attr = a; is = cc; size = cc }
+told_of (starts q a) e =
+    let value : ℕ → Option Found → ℕ = λ i o. get_or (first_said o).values i 0 in
+    record { attr = a; is = ap (λ (r : ℕ). starts r a) (ap (value 0) e); size = ap (value 1) e }
 
-pub told : (x : Place) {f : First} {p n : ℕ} → f ≡ placed x → f ≡ Found p n → Told x p n
+pub told : (x : Place) {f : Option Found} {y : Found} → f ≡ placed x → f ≡ Some y → Told x y.at y.size
 told x e g = told_of x (sym e ∙ g)
 
 -- what place and size say of the bytes
@@ -136,40 +137,42 @@ only_whole rows k d {p} {a} e = go (is_whole rows d) refl e
     go true f g = (refl, g)
     go false f g = let z : false ≡ true = ap is_there g in let y : ◌≡◌ {A = ℕ} 0 1 = cc in absurd (omega arith)
 
-module _ (d : List ℕ) (k : ℕ) {f : First} {p n : ℕ} where
-  pub part_in : f ≡ placed (first_in k d) → f ≡ Found p n → Part d (first_in k d) p n
-  part_in e g = let t : Told (first_in k d) p n = told (first_in k d) e g in part_of t (lies d k t.is)
+module _ (d : List ℕ) (k : ℕ) {f : Option Found} {y : Found} where
+  pub part_in : f ≡ placed (first_in k d) → f ≡ Some y → Part d (first_in k d) y.at y.size
+  part_in e g = let t : Told (first_in k d) y.at y.size = told (first_in k d) e g in part_of t (lies d k t.is)
 
-  pub part : (rows : List Row) → f ≡ placed (first rows k d) → f ≡ Found p n → Part d (first rows k d) p n
-  part rows e g = let t : Told (first rows k d) p n = told (first rows k d) e g in part_of t (lies d k (only_whole rows k d t.is).1)
+  pub part : (rows : List Row) → f ≡ placed (first rows k d) → f ≡ Some y → Part d (first rows k d) y.at y.size
+  part rows e g =
+      let t : Told (first rows k d) y.at y.size = told (first rows k d) e g in
+      part_of t (lies d k (only_whole rows k d t.is).1)
 
 -- what is told as absent is nowhere
-absent_of : (x : Place) → placed x ≡ Absent → x ≡ none
+absent_of : (x : Place) → placed x ≡ None → x ≡ none
 unfolding placed
 absent_of none e = refl
 absent_of (starts p a) e = let z : ◌≡◌ {A = ℕ} 0 1 = cc in absurd (omega arith)
 
-pub absent : (x : Place) {f : First} → f ≡ placed x → f ≡ Absent → x ≡ none
+pub absent : (x : Place) {f : Option Found} → f ≡ placed x → f ≡ None → x ≡ none
 absent x e g = absent_of x (sym e ∙ g)
 
 -- the part that code cuts out of the bytes, and where it lies
-module _ (rows : List Row) (d : List ℕ) (k : ℕ) {f : First} (e : f ≡ placed (first rows k d)) where
-  pub nothing : f ≡ Absent → [] ≡ value_of (first rows k d)
+module _ (rows : List Row) (d : List ℕ) (k : ℕ) {f : Option Found} (e : f ≡ placed (first rows k d)) where
+  pub nothing : f ≡ None → [] ≡ value_of (first rows k d)
   unfolding value_of
   nothing g = ap value_of (sym (absent (first rows k d) e g))
 
-  pub nothing_at : (b o : ℕ) → f ≡ Absent → ◌≡◌ {A = ℕ × ℕ} (b, 0 + o) (b, value_at (first rows k d) + o)
+  pub nothing_at : (b o : ℕ) → f ≡ None → ◌≡◌ {A = ℕ × ℕ} (b, 0 + o) (b, value_at (first rows k d) + o)
   unfolding value_at
   nothing_at b o g = ap {B = ℕ × ℕ} (λ x. (b, value_at x + o)) (sym (absent (first rows k d) e g))
 
-  module _ {p n : ℕ} (g : f ≡ Found p n) where
-    pub room : p + 4 + n ≤ length d
+  module _ {y : Found} (g : f ≡ Some y) where
+    pub room : y.at + 4 + y.size ≤ length d
     room = (part d k rows e g).inside
 
-    pub value : take (p + 4 + n - (p + 4)) (drop (p + 4) d) ≡ value_of (first rows k d)
+    pub value : take (y.at + 4 + y.size - (y.at + 4)) (drop (y.at + 4) d) ≡ value_of (first rows k d)
     value =
-        let m : p + 4 + n - (p + 4) ≡ n = omega arith in
-        ap (λ (y : ℕ). take y (drop (p + 4) d)) m ∙ (part d k rows e g).value
+        let m : y.at + 4 + y.size - (y.at + 4) ≡ y.size = omega arith in
+        ap (λ (n : ℕ). take n (drop (y.at + 4) d)) m ∙ (part d k rows e g).value
 
-    pub value_at_lem : (b o : ℕ) → ◌≡◌ {A = ℕ × ℕ} (b, p + 4 + o) (b, value_at (first rows k d) + o)
-    value_at_lem b o = ap {B = ℕ × ℕ} (λ y. (b, y + o)) (part d k rows e g).at
+    pub value_at_lem : (b o : ℕ) → ◌≡◌ {A = ℕ × ℕ} (b, y.at + 4 + o) (b, value_at (first rows k d) + o)
+    value_at_lem b o = ap {B = ℕ × ℕ} (λ n. (b, n + o)) (part d k rows e g).at

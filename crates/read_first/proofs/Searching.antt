@@ -1,10 +1,6 @@
 -- The search for a type: what holds at a place, and how a step carries it on.
-use Prim.Native.Nat.{ℕ, ◌-◌, ◌<◌}
-use mathlib.Core.List.{List, ◌∷◌}
-use mathlib.Core.Path.{◌≡◌, refl, sym, ap, ◌∙◌}
-use native.Mathlib.Omega.{arith}
-use borrow.Author.Tests.{eq-eqb, ne_eqb}
-use lib.ListN.{length, take, drop, length-take, length-drop}
+use Rattle.std.specs.Prelude.{ℕ, ◌-◌, ◌<◌, List, ◌∷◌, ◌≡◌, refl, length, take, drop, Option, Some, None}
+use Rattle.std.proofs.Common.{sym, ap, ◌∙◌, arith, eq-eqb, ne_eqb, length-take, length-drop}
 use Rattle.attribute.specs.Attribute.{Body, attrs, parse}
 use Rattle.attribute.specs.Walk.{step_at}
 use Rattle.attribute.specs.WalkLaws.{Ahead, ahead, Stops, seen}
@@ -13,8 +9,11 @@ use Rattle.attribute.specs.Visits as visits
 use Rattle.attribute.proofs.ScanLaws.{found_length}
 use Rattle.attribute.specs.declared.Walk.{Walk}
 use Rattle.attribute.specs.declared.Walk.TheVariants.{Attribute}
-use Rattle.read_first.specs.declared.First.TheVariants.{Found, Absent}
+use Rattle.read_first.specs.declared.Found.{Found}
 use Rattle.read_first.specs.First.{Place, starts, first_from, first_in, placed}
+
+abbrev told : ℕ → ℕ → Option Found
+told p n = Some (record { at = p; size = n })
 
 abbrev from : List ℕ → ℕ → ℕ → Place
 from d k p = first_from k p (attrs (parse 0 (drop p d)))
@@ -43,14 +42,14 @@ module _ {d : List ℕ} {k at q j v n x : ℕ} {w : Walk} (g : Searching d k at)
         ap (λ (y : ℕ). first_from k y (attrs (parse 0 (drop x d)))) (sym (found_length j inside)) ∙ sym (here ∙ simp (ne_eqb j k ne)) ∙ g.same;
   }
 
-  pub found : j ≡ k → Found at n ≡ placed (first_in k d)
+  pub found : j ≡ k → told at n ≡ placed (first_in k d)
   unfolding first_from placed
   found i =
       let s : length (take n (drop v d)) ≡ n = simp (length-take, length-drop) (omega (arith, inside)) in
       let t : from d k at ≡ starts at (visits.found d j v n x) = here ∙ simp (eq-eqb j k i) in
-      ap (λ (m : ℕ). Found at m) (sym s) ∙ ap placed (sym t ∙ g.same)
+      ap (λ (m : ℕ). told at m) (sym s) ∙ ap placed (sym t ∙ g.same)
 
 -- the step is no attribute
-pub none_left : {d : List ℕ} {k at : ℕ} {w : Walk} → Stops w → Searching d k at → w ≡ step_at d at → Absent ≡ placed (first_in k d)
+pub none_left : {d : List ℕ} {k at : ℕ} {w : Walk} → Stops w → Searching d k at → w ≡ step_at d at → None ≡ placed (first_in k d)
 unfolding first_from placed
 none_left {d} {k} {at} s g e = ap placed (sym (ap (λ (y : Body). first_from k at (attrs y)) (stopped d at s e)) ∙ g.same)

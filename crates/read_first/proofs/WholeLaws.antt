@@ -1,5 +1,5 @@
 -- What is known of a whole datagram: what the reader lets through has no fault, and the reader's number is 0 only of one.
-use Rattle.std.specs.Prelude.{ℕ, ◌+◌, List, [], ◌∷◌, false, ◌≡◌, length}
+use Rattle.std.specs.Prelude.{ℕ, ◌+◌, List, [], ◌∷◌, false, ◌≡◌, length, Result}
 use Rattle.std.proofs.Math.Bool.{true}
 use Rattle.std.proofs.Math.Path.{refl, ap}
 use Rattle.std.proofs.Common.{arith}
@@ -7,11 +7,11 @@ use Rattle.attribute.specs.Attribute.{Attr, bytes_of}
 use Rattle.attribute.specs.Scan.{Pass}
 use Rattle.registry.specs.Fault.{fault}
 use Rattle.registry.specs.declared.Row.{Row}
-use Rattle.read_message.specs.Reading.{answer_said, reading_said, value_faults, reading_of}
+use Rattle.read_message.specs.Reading as answer
+use Rattle.read_message.specs.Reading.{Answer, answer_of, id_in, answer_said, reading_said, value_faults, reading_of}
 use Rattle.read_message.specs.Whole.{Whole, attributes}
 use Rattle.read_message.proofs.WholeLaws.{Parts, parts, told}
-use Rattle.read_message.specs.declared.Answer.{Answer}
-use Rattle.read_message.specs.declared.Answer.TheVariants as answer
+use Rattle.wire.specs.declared.refusal.Refusal.{Refusal}
 use Rattle.read_message.specs.declared.Reading.{Reading}
 use Rattle.read_first.specs.First.{starts, first_from, first_in, whole_by, is_whole, first}
 use Rattle.read_first.proofs.FirstLaws.{Heads, head, later, heads, nowhere, only_whole}
@@ -23,16 +23,16 @@ module _ (rows : List Row) (d : List ℕ) where
   -- whole by the answer, and whole by its number
   pub yes_whole : is_whole rows d ≡ true → Whole rows d
   unfolding is_whole Whole reading_said answer_said
-  yes_whole e = go (reading_of rows d).answer e
+  yes_whole e = go (answer_of (reading_of rows d)) e
     where
-      go : (a : Answer) → whole_by a ≡ true → (answer_said a (reading_of rows d).id.bytes).number ≡ 0
+      go : (a : Answer) → whole_by a ≡ true → (answer_said a (id_in (reading_of rows d))).number ≡ 0
       go (answer.Whole c m n) f = refl
       go (answer.Broken c m r p) f = absurd (no f)
       go (answer.Refused n) f = absurd (no f)
 
   pub number_whole : (reading_said (reading_of rows d)).number ≡ 0 → is_whole rows d ≡ true
   unfolding is_whole Whole
-  number_whole e = ap (λ (r : Reading). whole_by r.answer) (told rows d e)
+  number_whole e = ap (λ (r : Result Reading Refusal). whole_by (answer_of r)) (told rows d e)
 
   pub passes : is_whole rows d ≡ true → Parts rows d
   passes e = parts rows d (yes_whole e)

@@ -1,19 +1,16 @@
 -- The first attribute of a type (docs/SCOPE.md, "The first value of a type").
-use Rattle.std.specs.Prelude.{ℕ, ◌+◌, List, [], ◌∷◌, Bool, true, false, length, drop, eqb}
+use Rattle.std.specs.Prelude.{ℕ, ◌+◌, List, [], ◌∷◌, Bool, true, false, length, drop, eqb, Option, Some, None}
 use Rattle.base.specs.Choice.{pick}
 use Rattle.base.specs.Said.{Said, says}
 use Rattle.attribute.specs.Attribute.{Attr, attrs, bytes_of, parse}
 use Rattle.registry.specs.declared.Row.{Row}
-use Rattle.read_message.specs.Reading.{reading_of}
-use Rattle.read_message.specs.declared.Answer.{Answer}
-use Rattle.read_message.specs.declared.Answer.TheVariants.{Whole, Broken, Refused}
-use Rattle.read_first.specs.declared.First.{First}
-use Rattle.read_first.specs.declared.First.TheVariants.{Found, Absent}
+use Rattle.read_message.specs.Reading.{Answer, Whole, Broken, Refused, answer_of, reading_of}
+use Rattle.read_first.specs.declared.Found.{Found}
 
 -- what an answer says: found, with the place of the attribute and the size of its value, or absent
-unfoldable pub first_said : First → Said
-first_said (Found p n) = says 0 0 (p ∷ n ∷ [])
-first_said Absent = says 1 0 []
+unfoldable pub first_said : Option Found → Said
+first_said (Some f) = says 0 0 (f.at ∷ f.size ∷ [])
+first_said None = says 1 0 []
 
 -- nothing, or an attribute and the place where it starts
 pub data Place : Type 0 where
@@ -36,7 +33,7 @@ whole_by (Broken c m r p) = false
 whole_by (Refused n) = false
 
 unfoldable pub is_whole : List Row → List ℕ → Bool
-is_whole rows d = whole_by (reading_of rows d).answer
+is_whole rows d = whole_by (answer_of (reading_of rows d))
 
 -- every type is absent in a datagram that isn't
 unfoldable pub first : List Row → ℕ → List ℕ → Place
@@ -44,9 +41,9 @@ first rows k d = pick (is_whole rows d) (first_in k d) none
 
 -- what is told of it: its place and the size of its value; whether it is there; its value, empty where it is not; and where the
 -- value starts, at the front where it is not
-unfoldable pub placed : Place → First
-placed none = Absent
-placed (starts p a) = Found p (length a.value)
+unfoldable pub placed : Place → Option Found
+placed none = None
+placed (starts p a) = Some (record { at = p; size = length a.value })
 
 unfoldable pub is_there : Place → Bool
 is_there none = false

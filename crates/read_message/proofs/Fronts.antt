@@ -12,7 +12,7 @@ use Rattle.attribute.specs.WalkLaws.{ahead, seen}
 use Rattle.attribute.specs.Visits.{found}
 use Rattle.attribute.proofs.ScanLaws.{turn}
 use Rattle.attribute.specs.Scanning.{Scanning}
-use Rattle.attribute.specs.declared.Scan.{Scan}
+use Rattle.attribute.specs.Scan.{Scan}
 use Rattle.attribute.specs.declared.Walk.{Walk}
 use Rattle.attribute.specs.declared.Walk.TheVariants.{Attribute}
 use Rattle.read_fingerprints.specs.Fingerprints.{print_fault, print_faults}

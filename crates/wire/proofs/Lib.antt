@@ -1,2 +1,3 @@
 mod Classes
 mod Determined
+pub mod RefusalLaws

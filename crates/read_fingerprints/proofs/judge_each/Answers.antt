@@ -16,11 +16,11 @@ returns-then-at-d c = search (passed)
 pub returns-in_default : goal.returns-in_default
 returns-in_default c = search (cut, stops, c.in_default.not-Attribute, walk_one)
 
-pub print_fault-v-requires : goal.print_fault-v-requires
-print_fault-v-requires c = (search rules, search rules, search rules, search (print_room, walk_one))
+pub print_fault-requires : goal.print_fault-requires
+print_fault-requires c = (search rules, search rules, search rules, search (print_room, walk_one))
 
-pub returns-then-v-ne0 : goal.returns-then-v-ne0
-returns-then-v-ne0 c = search (print_decides, walk_one)
+pub returns-in-Err : goal.returns-in-Err
+returns-in-Err c = search (print_decides, walk_one)
 
 pub loop-kind-smaller : goal.loop-kind-smaller
 loop-kind-smaller c = search (less, walk_one)

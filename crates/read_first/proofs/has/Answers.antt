@@ -1,9 +1,7 @@
+use Rattle.std.proofs.Common.{ap, ◌∙◌, is_some}
 use Rattle.read_first.specs.SaidLaws.{first_one}
-use Rattle.read_first.proofs.Finding.{has_none, has_one}
+use Rattle.read_first.proofs.Finding.{has_one}
 use Rattle.read_first.proofs.has.Goals as goal
 
-pub returns-in-Absent : goal.returns-in-Absent
-returns-in-Absent c = search (has_none, has_one, first_one)
-
-pub returns-in-Found : goal.returns-in-Found
-returns-in-Found c = search (has_none, has_one, first_one)
+pub returns : goal.returns
+returns c = c.is_some.ensures ∙ ap is_some (first_one c.find.ensures) ∙ has_one _

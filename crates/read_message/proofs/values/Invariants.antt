@@ -1,5 +1,4 @@
-use Prim.Native.Nat.{◌-◌}
-use lib.ListN.{length}
+use Rattle.std.specs.Prelude.{ℕ, ◌-◌, length}
 use Rattle.attribute.specs.Scan.{scanned}
 use Rattle.attribute.specs.Scanning.{Scanning}
 use Rattle.registry.specs.Rows.{rfc5389}
@@ -9,7 +8,7 @@ use Rattle.read_message.proofs.values.Given as goal
 
 abbrev pub invariant-loop-kind : goal.invariant-loop-kind
 invariant-loop-kind l =
-    Scanning (value_faults rfc5389) l.d l.at l.count (scanned (value_faults rfc5389) l.d)
+    ((n : ℕ) × Scanning (value_faults rfc5389) l.d l.at n (scanned (value_faults rfc5389) l.d))
     × Scanning (print_faults l.d) l.d l.front.at l.front.count (scanned (print_faults l.d) l.d)
 
 abbrev pub decreases-loop-kind : goal.decreases-loop-kind
