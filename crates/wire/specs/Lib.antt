@@ -1,5 +1,4 @@
 pub mod Refusal
-pub mod RefusalLaws
 pub mod TypeNumber
 pub mod TypeLaws
 pub mod SaidLaws

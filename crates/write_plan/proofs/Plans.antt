@@ -5,7 +5,7 @@ use borrow.Author.Tests.{eqb-false}
 use Rattle.base.specs.Choice.{pick}
 use Rattle.big_endian.specs.Numbers.{be16}
 use Rattle.wire.specs.Refusal.{by, refused_by}
-use Rattle.wire.specs.RefusalLaws.{refusing, passing}
+use Rattle.wire.proofs.RefusalLaws.{passes, refuses}
 use Rattle.wire.specs.declared.refusal.Refusal.{Refusal}
 use Rattle.attribute.specs.Attribute.{padded}
 use Rattle.write_plan.specs.Plan.{message_fault, body_at, body_with, plan_of}
@@ -45,11 +45,11 @@ module _ (d : List ℕ) (f n m : ℕ) {x : Result ℕ Refusal} (e : x ≡ body_a
     message = there d (sym e ∙ g)
 
     pub at_23 : {r : Refusal} → y ≡ Err r → Err r ≡ plan_of d f n m
-    at_23 i = let w = refusing f (sym h ∙ i) in ap (λ (r : Refusal). Err r) w.refusal ∙ plan_is (wrong message.message w.some)
+    at_23 i = let w = refuses f (sym h ∙ i) in ap (λ (r : Refusal). Err r) w.refusal ∙ plan_is (wrong message.message w.some)
 
     module _ {u : Unit} (i : y ≡ Ok u) where
       right : f ≡ 0
-      right = passing f (sym h ∙ i)
+      right = passes f (sym h ∙ i)
 
       pub at_24 : (m ≡ (4 - n % 4) % 4 → ⊥) → Err (by 24) ≡ plan_of d f n m
       at_24 p = plan_is (padding message.message right (λ z. p (omega arith)))

@@ -3,7 +3,7 @@ use Rattle.std.specs.Prelude.{ℕ, zero, suc, ◌-◌, ◌%◌, ◌<◌, List, [
 use Rattle.std.proofs.Common.{sym, ap, ◌∙◌, arith, eq-eqb, ne_eqb}
 use Rattle.base.specs.Choice.{pick}
 use Rattle.wire.specs.Refusal.{refused_by}
-use Rattle.wire.specs.RefusalLaws.{refusing, passing}
+use Rattle.wire.proofs.RefusalLaws.{passes, refuses}
 use Rattle.wire.specs.declared.refusal.Refusal.{Refusal}
 use Rattle.attribute.specs.Attribute.{padded}
 use Rattle.registry.specs.Rows.{look, rule_in, rfc5389}
@@ -18,11 +18,11 @@ use Rattle.write_typed.proofs.Rules.{this_rule, another_rule}
 module _ (k : ℕ) (v : List ℕ) {x : Result Unit Refusal} (e : x ≡ refused_by (fault rfc5389 k v)) where
   pub taken : {u : Unit} → x ≡ Ok u → 0 ≡ refusal rfc5389 k v
   unfolding refusal
-  taken f = simp (eq-eqb (fault rfc5389 k v) 0 (passing (fault rfc5389 k v) (sym e ∙ f)))
+  taken f = simp (eq-eqb (fault rfc5389 k v) 0 (passes (fault rfc5389 k v) (sym e ∙ f)))
 
   pub refused : {r : Refusal} → x ≡ Err r → 23 ≡ refusal rfc5389 k v
   unfolding refusal
-  refused f = simp (ne_eqb (fault rfc5389 k v) 0 (refusing (fault rfc5389 k v) (sym e ∙ f)).some)
+  refused f = simp (ne_eqb (fault rfc5389 k v) 0 (refuses (fault rfc5389 k v) (sym e ∙ f)).some)
 
 -- a text, by the rule of its type
 module _ (k : ℕ) (v : List ℕ) {x : Option Row} {q : Rule} (e : x ≡ look rfc5389 k) (g : q ≡ rule_in x) where
