@@ -1,32 +1,22 @@
 -- The bytes of the values, and what the call returns and leaves in the buffer.
-use Prim.Native.Nat.{ℕ, suc, ◌+◌, ◌-◌, ◌≤◌}
-use mathlib.Core.List.{List, [], ◌∷◌, ◌++◌, append-nil}
-use mathlib.Core.Bool.{Bool, true, false}
-use mathlib.Core.Path.{◌≡◌, refl, sym, ap, ap₂, ◌∙◌}
-use native.Mathlib.Omega.{arith}
-use lib.ListN.{length, take, drop, set, replicate, drop_of_length-le}
+use Rattle.std.specs.Prelude.{ℕ, suc, ◌+◌, ◌≤◌, List, ◌∷◌, ◌++◌, Bool, true, false, ◌≡◌, refl, take, Result, Option}
+use Rattle.std.proofs.Common.{sym, ap, ap₂, ◌∙◌, arith}
 use Rattle.base.specs.Choice.{pick}
-use Rattle.base.specs.LaidLaws.{laid_is}
-use Rattle.base.specs.Laid.{laid}
 use Rattle.big_endian.specs.Numbers.{two}
-use Rattle.buffers.specs.Put.{put}
-use Rattle.buffers.specs.PutLaws.{put_laid, put_behind}
+use Rattle.wire.specs.declared.refusal.Refusal.{Refusal}
 use Rattle.wire.specs.declared.transaction_id.TransactionId.{TransactionId}
-use Rattle.header.specs.Header.{front_of}
-use Rattle.header.specs.declared.Header.{Header}
 use Rattle.net.specs.Net.{family_number, ip_size, addr_xor, address_value}
 use Rattle.net.specs.declared.Family.{Family}
 use Rattle.net.specs.declared.SocketAddr.{SocketAddr}
 use Rattle.registry.specs.Rows.{rule_number, rfc5389, look, rule_in, rule_of}
 use Rattle.registry.specs.AddressLaws as laws
+use Rattle.registry.specs.declared.Row.{Row}
 use Rattle.registry.specs.declared.Rule.{Rule}
 use Rattle.registry.specs.declared.Rule.TheVariants.{Address, XorAddress}
-use Rattle.registry.specs.declared.Entry.{Entry}
-use Rattle.write_begin.specs.declared.Written.{Written}
 use Rattle.write_raw.specs.Append.{answer, appended}
 use Rattle.write_typed.specs.Typed.{is_rule, typed}
 use Rattle.write_typed.proofs.Rules.{this_rule, another_rule}
-use Rattle.write_address.specs.Address.{address_refusal, given, address_attr}
+use Rattle.write_address.specs.Address.{address_refusal, given, id_given, address_attr}
 
 -- what is wrong with a rule, and the form of an address under it
 module _ (q : Rule) where
@@ -50,16 +40,6 @@ module _ (q : Rule) where
     pub xor_form : {r : SocketAddr} → q ≡ XorAddress → r ≡ addr_xor a id → r ≡ given q a id
     unfolding given
     xor_form e f = rw (this_rule q XorAddress e) f
-
-pub address_bytes : (f p : ℕ) (ip : List ℕ) {b1 b2 : List ℕ} → length ip ≡ 16 → b1 ≡ put (set (replicate 20 0) 1 f) 2 (two p) → b2 ≡ put b1 4 ip
-    → b2 ≡ 0 ∷ f ∷ two p ++ ip
-address_bytes f p ip {b1} {b2} l e g =
-    let v : List ℕ = set (replicate 20 0) 1 f in
-    let b : b2 ≡ laid v 2 (two p ++ ip) =
-    g ∙ ap (λ (x : List ℕ). put x 4 ip) (e ∙ put_laid v 2 (two p) (omega arith)) ∙ put_behind v 2 (two p) 4 ip (omega arith) (omega arith)
-    in
-    let z : drop (2 + length (two p ++ ip)) v ≡ [] = drop_of_length-le v {i = 2 + length (two p ++ ip)} (omega arith) in
-    b ∙ laid_is v 2 (two p ++ ip) (omega arith) ∙ ap (λ (x : List ℕ). 0 ∷ f ∷ (two p ++ ip) ++ x) z ∙ append-nil (0 ∷ f ∷ two p ++ ip)
 
 -- those in front, over the size of the IP
 front : (f p n : ℕ) (ip : List ℕ) → take (4 + n) (0 ∷ f ∷ two p ++ ip) ≡ 0 ∷ f ∷ two p ++ take n ip
@@ -85,28 +65,27 @@ form_bytes q addr id {a} {f} ae fe ve =
 pub ip_small : (f : Family) {n : ℕ} → n ≡ ip_size f → n ≤ 16
 ip_small f e = omega (arith, laws.ip_small f)
 
--- the rule of a type, as it is looked up, and the front's header
-module _ (d : List ℕ) (k : ℕ) {x : Entry} {q : Rule} {h : Header} (xe : x ≡ look rfc5389 k) (qe : q ≡ rule_in x) (he : h ≡ front_of d) where
+-- the rule of a type, as it is looked up, and the front's ID
+module _ (d : List ℕ) (k : ℕ) {x : Option Row} {q : Rule} {id : TransactionId} (xe : x ≡ look rfc5389 k) (qe : q ≡ rule_in x) (ie : id ≡ id_given d) where
   rule : q ≡ rule_of rfc5389 k
   rule = qe ∙ ap rule_in xe
 
   -- what is wrong, the bytes and how many of them go
   module _ (addr : SocketAddr) (v : List ℕ) {w n : ℕ} (we : w ≡ address_refusal q)
-      (ve : take (4 + ip_size addr.family) v ≡ address_value (given q addr h.id)) (ne : n ≡ ip_size addr.family) where
+      (ve : take (4 + ip_size addr.family) v ≡ address_value (given q addr id)) (ne : n ≡ ip_size addr.family) where
     wrong : w ≡ address_refusal (rule_of rfc5389 k)
     wrong = we ∙ ap address_refusal rule
 
-    attribute : typed k (take (4 + n - 0) (drop 0 v)) ≡ address_attr rfc5389 d k addr
+    attribute : typed k (take (4 + n) v) ≡ address_attr rfc5389 d k addr
     unfolding address_attr
     attribute =
-        let m : 4 + n - 0 ≡ 4 + ip_size addr.family = omega arith in
         ap (typed k)
-        (ap (λ (i : ℕ). take i v) m ∙ ve ∙ ap₂ (λ (p : Rule) (y : Header). address_value (given p addr y.id)) rule he)
+        (ap (λ (i : ℕ). take (4 + i) v) ne ∙ ve ∙ ap₂ (λ (p : Rule) (y : TransactionId). address_value (given p addr y)) rule ie)
 
-    pub address_answer : {r : Written} → r ≡ answer d w (typed k (take (4 + n - 0) (drop 0 v)))
+    pub address_answer : {r : Result ℕ Refusal} → r ≡ answer d w (typed k (take (4 + n) v))
         → r ≡ answer d (address_refusal (rule_of rfc5389 k)) (address_attr rfc5389 d k addr)
     address_answer p = p ∙ ap₂ (answer d) wrong attribute
 
-    pub address_buffer : {b : List ℕ} → b ≡ appended d w (typed k (take (4 + n - 0) (drop 0 v)))
+    pub address_buffer : {b : List ℕ} → b ≡ appended d w (typed k (take (4 + n) v))
         → b ≡ appended d (address_refusal (rule_of rfc5389 k)) (address_attr rfc5389 d k addr)
     address_buffer p = p ∙ ap₂ (appended d) wrong attribute

@@ -7,23 +7,21 @@ ghost use Rattle.net.specs.Net.{ip_size, address_value};
 ghost use Rattle.registry.specs.Rows.{rfc5389, rule_of};
 ghost use Rattle.write_begin.specs.Begin.{written_said};
 ghost use Rattle.write_raw.specs.Append.{answer, appended};
-ghost use Rattle.write_address.specs.Address.{address_refusal, given, address_attr};
+ghost use Rattle.write_address.specs.Address.{address_refusal, given, id_given, address_attr};
 
-use buffers::{put_bytes, put_u16};
 use net::{SocketAddr, socket_addr_xor};
 use registry::Rule;
+use wire::refusal::Refusal;
 use wire::transaction_id::TransactionId;
-use write_begin::Written;
 use write_typed::append_value;
 
-// 23 where a rule is no address's, else 0.
+// 23 where a rule is no address's, else 0: a number, since it is the `wrong` of `append_value`.
 fn rule_refusal(rule: Rule) -> u8
     ensures { result ≡ address_refusal rule }
 {
     match rule {
-        Rule::Address => 0,
-        Rule::XorAddress => 0,
-        _ => 23,
+        Rule::Address | Rule::XorAddress => 0,
+        _ => Refusal::VALUE.number,
     }
 }
 
@@ -31,10 +29,10 @@ fn rule_refusal(rule: Rule) -> u8
 fn form_of(rule: Rule, addr: SocketAddr, id: TransactionId) -> SocketAddr
     ensures { result ≡ given rule addr id }
 {
-    let Rule::XorAddress = rule else {
-        return addr;
-    };
-    socket_addr_xor(addr, id)
+    match rule {
+        Rule::XorAddress => socket_addr_xor(addr, id),
+        _ => addr,
+    }
 }
 
 // The bytes of an address, with all 16 of the IP's.
@@ -43,8 +41,8 @@ fn address_bytes(family: u8, port: u16, ip: [u8; 16]) -> [u8; 20]
 {
     let mut v = [0u8; 20];
     v[1] = family;
-    put_u16(&mut v, 2, port);
-    put_bytes(&mut v, 4, &ip);
+    v[2..4].copy_from_slice(&port.to_be_bytes());
+    v[4..].copy_from_slice(&ip);
     v
 }
 
@@ -52,23 +50,27 @@ fn address_bytes(family: u8, port: u16, ip: [u8; 16]) -> [u8; 20]
 fn form_bytes(rule: Rule, addr: SocketAddr, id: TransactionId) -> [u8; 20]
     ensures { take (4 + ip_size addr.family) result ≡ address_value (given rule addr id) }
 {
-    let a = form_of(rule, addr, id);
-    let family = a.family;
-    let ip = a.ip;
-    address_bytes(family.as_u8(), a.port, ip)
+    let form = form_of(rule, addr, id);
+    address_bytes(form.family.as_u8(), form.port, form.ip)
+}
+
+// The ID of the message at the front, and zeros where there is none: the append is then refused by 21.
+fn id_at(d: &[u8]) -> TransactionId
+    ensures { result ≡ id_given d.now }
+{
+    match header::front_of(d) {
+        Ok(header) => header.id,
+        Err(_) => TransactionId { bytes: [0; 12] },
+    }
 }
 
 // Appends an address, of any type whose rule is one of an address. It is given plain; the XOR form takes the ID of the message at the front.
-pub fn append_address(buf: &mut [u8], kind: u16, addr: SocketAddr) -> Written
+pub fn append_address(buf: &mut [u8], kind: u16, addr: SocketAddr) -> Result<usize, Refusal>
     ensures { (written_said result ≡ written_said (answer buf.old (address_refusal (rule_of rfc5389 kind)) (address_attr rfc5389 buf.old kind addr)))
         × (buf.new ≡ appended buf.old (address_refusal (rule_of rfc5389 kind)) (address_attr rfc5389 buf.old kind addr)) }
 {
     let rule = registry::entry_rule(registry::entry_of(kind));
-    let wrong = rule_refusal(rule);
-    let h = header::front_of(buf);
-    let id = h.id;
-    let v = form_bytes(rule, addr, id);
-    let family = addr.family;
-    let n = 4 + family.ip_size();
-    append_value(buf, wrong, kind, &v[0..n])
+    let v = form_bytes(rule, addr, id_at(buf));
+    let n = 4 + addr.family.ip_size();
+    append_value(buf, rule_refusal(rule), kind, &v[..n])
 }

@@ -1,26 +1,19 @@
 -- What `begin` returns and leaves in the buffer, case by case.
-use Prim.Native.Nat.{ℕ, ◌≤◌, ◌<◌}
-use mathlib.Core.List.{List, ◌++◌}
-use mathlib.Core.Bool.{Bool, true, false}
-use mathlib.Core.Path.{◌≡◌, refl, sym, ap, ◌∙◌}
-use native.Mathlib.Omega.{arith}
-use borrow.Author.Tests.{lt-ltb, le-ltb, ltb-true, ltb-false}
-use lib.ListN.{length}
-use lib.Dec.{ltb}
+use Rattle.std.specs.Prelude.{ℕ, ◌≤◌, ◌<◌, List, ◌++◌, Bool, true, false, ◌≡◌, refl, length, ltb, Result, Ok, Err}
+use Rattle.std.proofs.Common.{sym, ap, ◌∙◌, arith, lt-ltb, le-ltb, ltb-true, ltb-false}
 use Rattle.base.specs.Choice.{pick}
 use Rattle.base.specs.Laid.{laid}
 use Rattle.big_endian.specs.Numbers.{two}
 use Rattle.buffers.specs.Put.{put}
 use Rattle.buffers.specs.PutLaws.{put_laid, put_behind}
 use Rattle.cookie.specs.Cookie.{cookie}
+use Rattle.wire.specs.Refusal.{by}
 use Rattle.wire.specs.TypeNumber.{type_of, class_number, type_number}
 use Rattle.wire.specs.declared.method.Method.{Method}
+use Rattle.wire.specs.declared.refusal.Refusal.{Refusal}
 use Rattle.wire.specs.declared.transaction_id.TransactionId.{TransactionId}
 use Rattle.wire.specs.declared.types.MessageClass.{MessageClass}
-use Rattle.wire.specs.declared.types.TypeNumber.{TypeNumber}
-use Rattle.wire.specs.declared.types.TypeNumber.TheVariants as number
 use Rattle.write_begin.specs.Begin.{head_bytes, begin_fault, begun, beginning}
-use Rattle.write_begin.specs.declared.Written.TheVariants.{Total, Refused}
 
 -- the four parts of a header, one behind the other
 pub parts : (d : List ℕ) (n : ℕ) {b1 b2 b3 b4 : List ℕ} (id : List ℕ) → 20 ≤ length d → length id ≡ 12 → b1 ≡ put d 0 (two n) → b2 ≡ put b1 2 (two 0)
@@ -39,49 +32,49 @@ record Made (m n t : ℕ) : Type 0 where
   small : m < 4096
   made : n ≡ t
 
-record Large (m k : ℕ) : Type 0 where
+record Large (m : ℕ) (r : Refusal) : Type 0 where
   large : 4096 ≤ m
-  number : k ≡ 22
+  refusal : r ≡ by 22
 
-module _ (c : MessageClass) (m : Method) {w : TypeNumber} (e : w ≡ type_number (record { class = c; method = m })) where
+module _ (c : MessageClass) (m : Method) {w : Result ℕ Refusal} (e : w ≡ type_number (record { class = c; method = m })) where
   type : ℕ
   type = type_of (class_number c) m.code
 
-  made : {n : ℕ} → w ≡ number.Number n → Made m.code n type
+  made : {n : ℕ} → w ≡ Ok n → Made m.code n type
   unfolding type_number type
   made {n} f = go (ltb m.code 4096) refl (sym e ∙ f)
     where
-      go : (b : Bool) → ltb m.code 4096 ≡ b → pick b (number.Number type) (number.Refused 22) ≡ number.Number n → Made m.code n type
+      go : (b : Bool) → ltb m.code 4096 ≡ b → ◌≡◌ {A = Result ℕ Refusal} (pick b (Ok type) (Err (by 22))) (Ok n) → Made m.code n type
       go true p q = record { small = ltb-true m.code 4096 p; made = cc }
       go false p q = let z : ◌≡◌ {A = ℕ} 0 1 = cc in absurd (omega arith)
 
-  large : {k : ℕ} → w ≡ number.Refused k → Large m.code k
+  large : {r : Refusal} → w ≡ Err r → Large m.code r
   unfolding type_number type
-  large {k} f = go (ltb m.code 4096) refl (sym e ∙ f)
+  large {r} f = go (ltb m.code 4096) refl (sym e ∙ f)
     where
-      go : (b : Bool) → ltb m.code 4096 ≡ b → pick b (number.Number type) (number.Refused 22) ≡ number.Refused k → Large m.code k
+      go : (b : Bool) → ltb m.code 4096 ≡ b → ◌≡◌ {A = Result ℕ Refusal} (pick b (Ok type) (Err (by 22))) (Err r) → Large m.code r
       go true p q = let z : ◌≡◌ {A = ℕ} 0 1 = cc in absurd (omega arith)
-      go false p q = record { large = ltb-false m.code 4096 p; number = cc }
+      go false p q = record { large = ltb-false m.code 4096 p; refusal = cc }
 
   module _ (d : List ℕ) where
-    fault_22 : {k : ℕ} → w ≡ number.Refused k → begin_fault d m.code ≡ 22
+    fault_22 : {r : Refusal} → w ≡ Err r → begin_fault d m.code ≡ 22
     unfolding begin_fault
     fault_22 f = simp (le-ltb m.code 4096 (large f).large)
 
-    pub refused_22 : {k : ℕ} → w ≡ number.Refused k → Refused k ≡ begun d m
+    pub refused_22 : {r : Refusal} → w ≡ Err r → Err r ≡ begun d m
     unfolding begun
-    refused_22 f = rw (fault_22 f, (large f).number)
+    refused_22 f = rw (fault_22 f, (large f).refusal)
 
-    pub kept_22 : {k : ℕ} (id : TransactionId) → w ≡ number.Refused k → d ≡ beginning d c m id
+    pub kept_22 : {r : Refusal} (id : TransactionId) → w ≡ Err r → d ≡ beginning d c m id
     unfolding beginning
     kept_22 id f = rw (fault_22 f)
 
-    module _ {n : ℕ} (f : w ≡ number.Number n) where
+    module _ {n : ℕ} (f : w ≡ Ok n) where
       fault_26 : length d < 20 → begin_fault d m.code ≡ 26
       unfolding begin_fault
       fault_26 h = simp (lt-ltb m.code 4096 (made f).small, lt-ltb (length d) 20 h)
 
-      pub refused_26 : length d < 20 → Refused 26 ≡ begun d m
+      pub refused_26 : length d < 20 → Err (by 26) ≡ begun d m
       unfolding begun
       refused_26 h = rw (fault_26 h)
 
@@ -94,7 +87,7 @@ module _ (c : MessageClass) (m : Method) {w : TypeNumber} (e : w ≡ type_number
         unfolding begin_fault
         fault_0 = simp (lt-ltb m.code 4096 (made f).small, le-ltb (length d) 20 h)
 
-        pub total : Total 20 ≡ begun d m
+        pub total : Ok 20 ≡ begun d m
         unfolding begun
         total = rw fault_0
 

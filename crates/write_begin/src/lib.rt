@@ -8,15 +8,9 @@ ghost use Rattle.write_begin.specs.Begin.{written_said, head_bytes, begun, begin
 use buffers::{put_bytes, put_u16};
 use cookie::put_cookie;
 use wire::method::Method;
+use wire::refusal::Refusal;
 use wire::transaction_id::TransactionId;
-use wire::types::{MessageClass, MessageType, TypeNumber};
-
-// What a call of the writer answers: the message's size from now on, or the number of the refusal.
-#[derive(Clone, Copy)]
-pub enum Written {
-    Total { size: usize },
-    Refused { number: u8 },
-}
+use wire::types::{MessageClass, MessageType};
 
 fn put_head(buf: &mut [u8], number: u16, id: [u8; 12])
     requires { 20 ≤ length buf.old }
@@ -28,21 +22,19 @@ fn put_head(buf: &mut [u8], number: u16, id: [u8; 12])
     put_bytes(buf, 8, &id);
 }
 
-// Writes a header with body length 0 to the front of the buffer.
-pub fn begin(buf: &mut [u8], class: MessageClass, method: Method, id: TransactionId) -> Written
+// Writes a header with body length 0 to the front of the buffer; the answer, as of each call of the writer, is the message's size from now on.
+pub fn begin(
+    buf: &mut [u8],
+    class: MessageClass,
+    method: Method,
+    id: TransactionId,
+) -> Result<usize, Refusal>
     ensures { (written_said result ≡ written_said (begun buf.old method)) × (buf.new ≡ beginning buf.old class method id) }
 {
-    let t = MessageType { class, method };
-    let made = t.as_u16();
-    match made {
-        TypeNumber::Refused { number } => Written::Refused { number },
-        TypeNumber::Number(n) => {
-            if buf.len() < 20 {
-                return Written::Refused { number: 26 };
-            }
-            let bytes = id.bytes;
-            put_head(buf, n, bytes);
-            Written::Total { size: 20 }
-        }
+    let number = MessageType { class, method }.as_u16()?;
+    if buf.len() < 20 {
+        return Err(Refusal::ROOM);
     }
+    put_head(buf, number, id.bytes);
+    Ok(20)
 }

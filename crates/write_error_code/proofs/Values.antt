@@ -1,33 +1,23 @@
 -- The bytes of the value, and what the call returns and leaves in the buffer.
-use Prim.Native.Nat.{ℕ, ◌+◌, ◌*◌, ◌-◌, ◌/◌, ◌%◌, ◌≤◌, ◌<◌}
-use mathlib.Core.List.{List, ◌++◌}
-use mathlib.Core.Path.{◌≡◌, sym, ap, ap₂, ◌∙◌}
-use native.Mathlib.Omega.{arith}
-use borrow.Author.Tests.{lt-ltb, le-ltb}
-use lib.ListN.{length, take, drop, set, replicate}
+use Rattle.std.specs.Prelude.{ℕ, ◌+◌, ◌*◌, ◌/◌, ◌%◌, ◌≤◌, ◌<◌, List, ◌∷◌, ◌++◌, ◌≡◌, length, take, Result}
+use Rattle.std.proofs.Common.{sym, ap, ap₂, ◌∙◌, arith, lt-ltb, le-ltb}
 use lib.Seq.{take_at}
-use Rattle.base.specs.LaidLaws.{laid_is}
-use Rattle.buffers.specs.Put.{put}
-use Rattle.buffers.specs.PutLaws.{put_laid}
+use Rattle.wire.specs.declared.refusal.Refusal.{Refusal}
 use Rattle.registry.specs.Rows.{rfc5389, look}
 use Rattle.registry.specs.ErrorCode.{code_value}
 use Rattle.registry.specs.Fault.{fault, entry_fault}
 use Rattle.registry.specs.declared.ErrorCode.{ErrorCode}
-use Rattle.write_begin.specs.declared.Written.{Written}
 use Rattle.write_raw.specs.Append.{answer, appended}
 use Rattle.write_raw.specs.AppendLaws.{answer_wrong, appended_wrong}
 use Rattle.write_typed.specs.Typed.{typed, refusal}
 use Rattle.write_error_code.specs.ErrorCode.{code_refusal}
 use Rattle.write_error_code.specs.ErrorCodeLaws as laws
 
-pub code_bytes : (e : ErrorCode) (s : List ℕ) {m : List ℕ} → length s ≤ 127
-    → m ≡ put (set (set (set (set (replicate 131 0) 0 (e.reserved / 8192)) 1 (e.reserved / 32 % 256)) 2 (e.reserved % 32 * 8 + e.code / 100)) 3 (e.code % 100)) 4 s
-    → take (4 + length s) m ≡ code_value e s
+-- four bytes and a phrase, in front of others
+pub code_bytes : (e : ErrorCode) (s : List ℕ) {t : List ℕ} (x : List ℕ) → t ≡ s
+    → take (4 + length s) (e.reserved / 8192 ∷ e.reserved / 32 % 256 ∷ (e.reserved % 32 * 8 + e.code / 100) ∷ e.code % 100 ∷ (t ++ x)) ≡ code_value e s
 unfolding code_value
-code_bytes e s {m} l p =
-    let v : List ℕ = set (set (set (set (replicate 131 0) 0 (e.reserved / 8192)) 1 (e.reserved / 32 % 256)) 2 (e.reserved % 32 * 8 + e.code / 100)) 3 (e.code % 100) in
-    let b : m ≡ take 4 v ++ s ++ drop (4 + length s) v = p ∙ put_laid v 4 s (omega arith) ∙ laid_is v 4 s (omega arith) in
-    ap (take (4 + length s)) b ∙ take_at (take 4 v ++ s) (drop (4 + length s) v) (4 + length s) (omega arith)
+code_bytes e s {t} x p = rw p (take_at (code_value e s) x (4 + length s) (omega arith))
 
 -- an ERROR-CODE of more than 131 bytes
 above_131 : (v : List ℕ) → 131 < length v → fault rfc5389 0x0009 v ≡ 11
@@ -59,24 +49,21 @@ module _ (e : ErrorCode) (s : List ℕ) where
         too_long n = by_value ∙ rw (above_131 (code_value e s) (omega arith))
 
         -- what is in range, with a phrase that fits, is judged by its bytes
-        module _ (d m : List ℕ) (i : take (4 + length s) m ≡ code_value e s) {w : ℕ} (we : w ≡ refusal rfc5389 0x0009 (take (4 + length s - 0) (drop 0 m))) where
-          bytes : take (4 + length s - 0) (drop 0 m) ≡ code_value e s
-          bytes = let z : 4 + length s - 0 ≡ 4 + length s = omega arith in ap (λ (i : ℕ). take i m) z ∙ i
-
+        module _ (d m : List ℕ) (i : take (4 + length s) m ≡ code_value e s) {w : ℕ} (we : w ≡ refusal rfc5389 0x0009 (take (4 + length s) m)) where
           wrong : w ≡ code_refusal rfc5389 e s
-          wrong = we ∙ ap (refusal rfc5389 0x0009) bytes ∙ sym by_value
+          wrong = we ∙ ap (refusal rfc5389 0x0009) i ∙ sym by_value
 
-          pub code_answer : {r : Written} → r ≡ answer d w (typed 0x0009 (take (4 + length s - 0) (drop 0 m)))
+          pub code_answer : {r : Result ℕ Refusal} → r ≡ answer d w (typed 0x0009 (take (4 + length s) m))
               → r ≡ answer d (code_refusal rfc5389 e s) (typed 0x0009 (code_value e s))
-          code_answer p = p ∙ ap₂ (λ (f : ℕ) (v : List ℕ). answer d f (typed 0x0009 v)) wrong bytes
+          code_answer p = p ∙ ap₂ (λ (f : ℕ) (v : List ℕ). answer d f (typed 0x0009 v)) wrong i
 
-          pub code_buffer : {b : List ℕ} → b ≡ appended d w (typed 0x0009 (take (4 + length s - 0) (drop 0 m)))
+          pub code_buffer : {b : List ℕ} → b ≡ appended d w (typed 0x0009 (take (4 + length s) m))
               → b ≡ appended d (code_refusal rfc5389 e s) (typed 0x0009 (code_value e s))
-          code_buffer p = p ∙ ap₂ (λ (f : ℕ) (v : List ℕ). appended d f (typed 0x0009 v)) wrong bytes
+          code_buffer p = p ∙ ap₂ (λ (f : ℕ) (v : List ℕ). appended d f (typed 0x0009 v)) wrong i
 
   -- any other is refused, whatever stands for its value
   module _ (d : List ℕ) (z : code_refusal rfc5389 e s ≡ 23) (v : List ℕ) where
-    pub stops : {r : Written} → r ≡ answer d 23 (typed 0x0009 v) → r ≡ answer d (code_refusal rfc5389 e s) (typed 0x0009 (code_value e s))
+    pub stops : {r : Result ℕ Refusal} → r ≡ answer d 23 (typed 0x0009 v) → r ≡ answer d (code_refusal rfc5389 e s) (typed 0x0009 (code_value e s))
     stops p = rw z (p ∙ answer_wrong d 23 (λ z. omega arith) (typed 0x0009 v) (typed 0x0009 (code_value e s)))
 
     pub keeps : {b : List ℕ} → b ≡ appended d 23 (typed 0x0009 v) → b ≡ appended d (code_refusal rfc5389 e s) (typed 0x0009 (code_value e s))

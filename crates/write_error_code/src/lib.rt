@@ -9,9 +9,8 @@ ghost use Rattle.write_raw.specs.Append.{answer, appended};
 ghost use Rattle.write_typed.specs.Typed.{typed};
 ghost use Rattle.write_error_code.specs.ErrorCode.{code_refusal};
 
-use buffers::put_bytes;
 use registry::ErrorCode;
-use write_begin::Written;
+use wire::refusal::Refusal;
 use write_typed::{append_value, refusal_of};
 
 // The bytes of an error code and its phrase, with zeros behind.
@@ -19,29 +18,26 @@ fn code_bytes(error: ErrorCode, phrase: &[u8]) -> [u8; 131]
     requires { (error.code < 700) × (error.reserved < 2097152) × (length phrase.now ≤ 127) }
     ensures { take (4 + length phrase.now) result ≡ code_value error phrase.now }
 {
-    let code = error.code;
-    let reserved = error.reserved;
+    let ErrorCode { code, reserved } = error;
     let mut v = [0u8; 131];
     v[0] = (reserved / 8192) as u8;
     v[1] = (reserved / 32 % 256) as u8;
     v[2] = (reserved % 32 * 8) as u8 + (code / 100) as u8;
     v[3] = (code % 100) as u8;
-    put_bytes(&mut v, 4, phrase);
+    v[4..4 + phrase.len()].copy_from_slice(phrase);
     v
 }
 
 // Appends ERROR-CODE. What is out of range, code, reserved number or phrase, is not laid out; the bytes of another are judged by the list of types.
-pub fn append_error_code(buf: &mut [u8], error: ErrorCode, phrase: &[u8]) -> Written
+pub fn append_error_code(buf: &mut [u8], error: ErrorCode, phrase: &[u8]) -> Result<usize, Refusal>
     ensures { (written_said result ≡ written_said (answer buf.old (code_refusal rfc5389 error phrase.now) (typed 0x0009 (code_value error phrase.now))))
         × (buf.new ≡ appended buf.old (code_refusal rfc5389 error phrase.now) (typed 0x0009 (code_value error phrase.now))) }
 {
     let n = phrase.len();
-    let code = error.code;
-    let reserved = error.reserved;
+    let ErrorCode { code, reserved } = error;
     if code < 300 || 699 < code || 2097151 < reserved || 127 < n {
-        return append_value(buf, 23, 0x0009, phrase);
+        return append_value(buf, Refusal::VALUE.number, 0x0009, phrase);
     }
     let v = code_bytes(error, phrase);
-    let wrong = refusal_of(0x0009, &v[0..4 + n]);
-    append_value(buf, wrong, 0x0009, &v[0..4 + n])
+    append_value(buf, refusal_of(0x0009, &v[..4 + n]), 0x0009, &v[..4 + n])
 }

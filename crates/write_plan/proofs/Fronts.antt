@@ -1,34 +1,26 @@
--- The walk over the message at the front, and what `front_fault` returns.
-use Prim.Native.Nat.{ℕ, ◌+◌, ◌-◌, ◌≤◌, ◌<◌}
-use mathlib.Core.List.{List, [], ◌∷◌}
-use mathlib.Core.Bool.{Bool, true, false}
-use mathlib.Core.Path.{◌≡◌, refl, sym, ap, ◌∙◌}
-use native.Mathlib.Omega.{arith}
-use native.Mathlib.Decide.{ℕ_discrete}
-use borrow.Author.Tests.{lt-ltb, le-ltb, eq-eqb, ne_eqb}
-use lib.Dec.{eqb}
-use lib.ListN.{length, take, drop, length-drop}
-use Rattle.wire.specs.declared.method.Method.{Method}
-use Rattle.wire.specs.declared.types.MessageClass.{MessageClass}
-use Rattle.header.specs.Header.{front_fault, front_of}
+-- The walk over the message at the front, and what `body_at` returns.
+use Rattle.std.specs.Prelude.{ℕ, ◌+◌, ◌-◌, ◌≤◌, ◌<◌, List, [], ◌∷◌, Bool, true, false, ◌≡◌, length, take, drop, eqb, Result, Ok, Err}
+use Rattle.std.proofs.Common.{sym, ap, ◌∙◌, arith, lt-ltb, le-ltb, eq-eqb, ne_eqb}
+use Rattle.std.proofs.Math.Decide.{ℕ_discrete}
+use Rattle.std.proofs.Math.ListN.{length-drop}
+use Rattle.big_endian.specs.Numbers.{be16}
+use Rattle.wire.specs.Refusal.{by}
+use Rattle.wire.specs.declared.refusal.Refusal.{Refusal}
+use Rattle.header.specs.Header.{front_fault, told, front_of}
 use Rattle.header.specs.HeaderLaws.{Front, front_said, front_refused}
 use Rattle.header.specs.declared.Header.{Header}
-use Rattle.header.specs.declared.Head.TheVariants.{Good, Refused}
 use Rattle.attribute.specs.Attribute.{rest, parse}
 use Rattle.attribute.specs.Walk.{step_at}
 use Rattle.attribute.specs.WalkLaws.{Ahead, ahead, Stops, seen}
 use Rattle.attribute.proofs.BodyLaws.{body_seen, stopped}
 use Rattle.attribute.specs.declared.Walk.{Walk}
 use Rattle.attribute.specs.declared.Walk.TheVariants.{Attribute}
-use Rattle.write_plan.specs.Plan.{none, covers, size_of, message_fault}
+use Rattle.write_plan.specs.Plan.{none, covers, size_of, message_fault, body_at}
 
 -- what is left over from a place on is what is left over
 pub record Walking (m : List ℕ) (at : ℕ) : Type 0 where
   pub inside : at ≤ length m
   pub same : rest (parse 0 (drop at m)) ≡ rest (parse 0 (drop 20 m))
-
-pub start : (m : List ℕ) → 20 ≤ length m → Walking m 20
-start m h = record { inside = h; same = refl }
 
 module _ {m : List ℕ} {at : ℕ} {w : Walk} (g : Walking m at) (e : w ≡ step_at m at) where
   module _ {q k v n x : ℕ} (i : w ≡ Attribute q k v n x) where
@@ -59,27 +51,31 @@ module _ {m : List ℕ} {at : ℕ} {w : Walk} (g : Walking m at) (e : w ≡ step
           go (yes h) = eq-eqb a b h ∙ sym (eq-eqb (b - a) 0 (omega arith))
           go (no h) = ne_eqb a b h ∙ sym (ne_eqb (b - a) 0 (λ z. h (omega arith)))
 
-module _ (d : List ℕ) {h : Header} (e : h ≡ front_of d) where
-  pub fault_refused : {k : ℕ} → h.head ≡ Refused k → 21 ≡ message_fault d
-  unfolding message_fault
-  fault_refused f = simp (ne_eqb (front_fault d) 0 (front_refused d (sym (ap (λ (x : Header). x.head) e) ∙ f)))
+module _ (d : List ℕ) {w : Result Header Refusal} (e : w ≡ front_of d) where
+  pub none_at : {r : Refusal} → w ≡ Err r → Err (by 21) ≡ body_at d
+  unfolding message_fault body_at
+  none_at f = simp (ne_eqb (front_fault d) 0 (front_refused d (sym e ∙ f)).some)
 
-  module _ {c : MessageClass} {m : Method} {b : ℕ} (f : h.head ≡ Good c m b) where
-    good : Front d b
-    good = front_said d (sym (ap (λ (x : Header). x.head) e) ∙ f)
+  module _ {h : Header} (f : w ≡ Ok h) where
+    good : Front d h
+    good = front_said d (sym e ∙ f)
 
-    pub fault_past : length d < 20 + b → 21 ≡ message_fault d
-    unfolding message_fault
-    fault_past l = simp (eq-eqb (front_fault d) 0 good.fault, lt-ltb (length d) (size_of d) (omega (arith, good.body)))
+    body : h.body ≡ be16 d 2
+    unfolding told
+    body = ap (λ (h : Header). h.body) good.header
 
-    module _ (l : 20 + b ≤ length d) {q : Bool} (g : q ≡ covers (take (20 + b - 0) (drop 0 d))) where
+    pub past_end : length d < 20 + h.body → Err (by 21) ≡ body_at d
+    unfolding message_fault body_at
+    past_end l = simp (eq-eqb (front_fault d) 0 good.fault, lt-ltb (length d) (size_of d) (omega (arith, body)))
+
+    module _ (l : 20 + h.body ≤ length d) {q : Bool} (g : q ≡ covers (take (20 + h.body) d)) where
       front_covers : q ≡ covers (take (size_of d) d)
-      front_covers = let z : 20 + b - 0 ≡ size_of d = omega (arith, good.body) in g ∙ ap (λ (x : ℕ). covers (take x d)) z
+      front_covers = g ∙ ap (λ (x : ℕ). covers (take (20 + x) d)) body
 
-      pub fault_none : q ≡ true → 0 ≡ message_fault d
-      unfolding message_fault
-      fault_none t = simp (eq-eqb (front_fault d) 0 good.fault, le-ltb (length d) (size_of d) (omega (arith, good.body)), sym front_covers ∙ t)
+      pub cut_at : q ≡ false → Err (by 21) ≡ body_at d
+      unfolding message_fault body_at
+      cut_at t = simp (eq-eqb (front_fault d) 0 good.fault, le-ltb (length d) (size_of d) (omega (arith, body)), sym front_covers ∙ t)
 
-      pub fault_cut : q ≡ false → 21 ≡ message_fault d
-      unfolding message_fault
-      fault_cut t = simp (eq-eqb (front_fault d) 0 good.fault, le-ltb (length d) (size_of d) (omega (arith, good.body)), sym front_covers ∙ t)
+      pub covered_at : q ≡ true → Ok h.body ≡ body_at d
+      unfolding message_fault body_at
+      covered_at t = rw body (simp (eq-eqb (front_fault d) 0 good.fault, le-ltb (length d) (size_of d) (omega (arith, body)), sym front_covers ∙ t))

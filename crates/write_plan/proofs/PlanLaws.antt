@@ -1,13 +1,14 @@
 -- The cases of a plan, with the facts that go with each.
-use Rattle.std.specs.Prelude.{ℕ, ◌+◌, ◌≤◌, ◌<◌, List, [], ◌∷◌, Bool, true, false, ◌≡◌, refl, length, take, drop, ltb, eqb}
+use Rattle.std.specs.Prelude.{ℕ, ◌+◌, ◌≤◌, ◌<◌, List, [], ◌∷◌, Bool, true, false, ◌≡◌, refl, length, take, drop, ltb, eqb, Result, Ok, Err}
 use Rattle.std.proofs.Common.{sym, ap, ◌∙◌, subst, arith, lt-ltb, le-ltb, eq-eqb, ne_eqb, eqb-true, ltb-false}
 use Rattle.std.proofs.Math.Decide.{dec_lt, ℕ_discrete}
 use Rattle.base.specs.Choice.{pick}
+use Rattle.wire.specs.Refusal.{by}
+use Rattle.wire.specs.declared.refusal.Refusal.{Refusal}
 use Rattle.header.specs.Header.{front_fault}
 use Rattle.attribute.specs.Attribute.{padded, rest, parse}
 use Rattle.write_plan.specs.Plan.{none, covers, size_of, message_fault, body_with, plan_of}
-use Rattle.write_plan.specs.declared.Plan.{Plan}
-use Rattle.write_plan.specs.declared.Plan.TheVariants.{Go, No}
+use Rattle.write_plan.specs.declared.Room.{Room}
 
 -- a message that an attribute can be put behind
 pub record Message (d : List ℕ) : Type 0 where
@@ -35,16 +36,16 @@ unfolding message_fault covers
 message_is d m =
     simp (eq-eqb (front_fault d) 0 m.front, le-ltb (length d) (size_of d) m.inside, ap none m.covered)
 
-pub data Case (d : List ℕ) (f n m : ℕ) : Plan → Type 0 where
-  no_message : (message_fault d ≡ 0 → ⊥) → Case d f n m (No 21)
-  wrong : message_fault d ≡ 0 → (f ≡ 0 → ⊥) → Case d f n m (No f)
-  padding : message_fault d ≡ 0 → f ≡ 0 → (n + m ≡ padded n → ⊥) → Case d f n m (No 24)
-  long : message_fault d ≡ 0 → f ≡ 0 → n + m ≡ padded n → 65532 < body_with d n → Case d f n m (No 25)
-  small : message_fault d ≡ 0 → f ≡ 0 → n + m ≡ padded n → body_with d n ≤ 65532 → length d < 20 + body_with d n → Case d f n m (No 26)
+pub data Case (d : List ℕ) (f n m : ℕ) : Result Room Refusal → Type 0 where
+  no_message : (message_fault d ≡ 0 → ⊥) → Case d f n m (Err (by 21))
+  wrong : message_fault d ≡ 0 → (f ≡ 0 → ⊥) → Case d f n m (Err (by f))
+  padding : message_fault d ≡ 0 → f ≡ 0 → (n + m ≡ padded n → ⊥) → Case d f n m (Err (by 24))
+  long : message_fault d ≡ 0 → f ≡ 0 → n + m ≡ padded n → 65532 < body_with d n → Case d f n m (Err (by 25))
+  small : message_fault d ≡ 0 → f ≡ 0 → n + m ≡ padded n → body_with d n ≤ 65532 → length d < 20 + body_with d n → Case d f n m (Err (by 26))
   goes : message_fault d ≡ 0 → f ≡ 0 → n + m ≡ padded n → body_with d n ≤ 65532 → 20 + body_with d n ≤ length d
-      → Case d f n m (Go (size_of d) (body_with d n) (20 + body_with d n))
+      → Case d f n m (Ok (record { at = size_of d; body = body_with d n; total = 20 + body_with d n }))
 
-pub plan_is : {d : List ℕ} {f n m : ℕ} {p : Plan} → Case d f n m p → p ≡ plan_of d f n m
+pub plan_is : {d : List ℕ} {f n m : ℕ} {p : Result Room Refusal} → Case d f n m p → p ≡ plan_of d f n m
 unfolding plan_of
 plan_is {d} {f} {n} {m} (no_message g) = simp (ne_eqb (message_fault d) 0 g)
 plan_is {d} {f} {n} {m} (wrong g w) = simp (eq-eqb (message_fault d) 0 g, ne_eqb f 0 w)
@@ -58,8 +59,8 @@ plan_is {d} {f} {n} {m} (goes g w e s t) =
     simp
     (eq-eqb (message_fault d) 0 g, eq-eqb f 0 w, eq-eqb (n + m) (padded n) e, le-ltb 65532 (body_with d n) s, le-ltb (length d) (20 + body_with d n) t)
 
-as_plan : {d : List ℕ} {f n m : ℕ} {p : Plan} → Case d f n m p → Case d f n m (plan_of d f n m)
-as_plan {d} {f} {n} {m} x = subst (λ (p : Plan). Case d f n m p) (plan_is x) x
+as_plan : {d : List ℕ} {f n m : ℕ} {p : Result Room Refusal} → Case d f n m p → Case d f n m (plan_of d f n m)
+as_plan {d} {f} {n} {m} x = subst (λ (p : Result Room Refusal). Case d f n m p) (plan_is x) x
 
 -- every attribute has its case
 pub view : (d : List ℕ) (f n m : ℕ) → Case d f n m (plan_of d f n m)
@@ -86,19 +87,19 @@ view d f n m = c1 (ℕ_discrete (message_fault d) 0)
     c1 (no g) = as_plan (no_message g)
 
 -- what is known of an attribute that goes
-pub record Going (d : List ℕ) (f n m at body total : ℕ) : Type 0 where
+pub record Going (d : List ℕ) (f n m : ℕ) (r : Room) : Type 0 where
   pub fault : message_fault d ≡ 0
   pub right : f ≡ 0
   pub pads : n + m ≡ padded n
-  pub place : at ≡ size_of d
-  pub new_body : body ≡ body_with d n
-  pub size : total ≡ 20 + body
-  pub few : body ≤ 65532
-  pub room : total ≤ length d
+  pub place : r.at ≡ size_of d
+  pub new_body : r.body ≡ body_with d n
+  pub size : r.total ≡ 20 + r.body
+  pub few : r.body ≤ 65532
+  pub room : r.total ≤ length d
 
-case_goes : {d : List ℕ} {f n m at body total : ℕ} → Case d f n m (Go at body total) → Going d f n m at body total
+case_goes : {d : List ℕ} {f n m : ℕ} {r : Room} → Case d f n m (Ok r) → Going d f n m r
 case_goes (goes g w e s t) =
     record { fault = g; right = w; pads = e; place = refl; new_body = refl; size = refl; few = s; room = t }
 
-pub going : {d : List ℕ} {f n m at body total : ℕ} {p : Plan} → p ≡ Go at body total → p ≡ plan_of d f n m → Going d f n m at body total
-going {d} {f} {n} {m} g e = case_goes (subst (λ (x : Plan). Case d f n m x) (sym e ∙ g) (view d f n m))
+pub going : {d : List ℕ} {f n m : ℕ} {r : Room} {p : Result Room Refusal} → p ≡ Ok r → p ≡ plan_of d f n m → Going d f n m r
+going {d} {f} {n} {m} g e = case_goes (subst (λ (x : Result Room Refusal). Case d f n m x) (sym e ∙ g) (view d f n m))

@@ -1,20 +1,16 @@
 -- What the calls return and leave in the buffer, as the code finds it.
-use Prim.Native.Nat.{ℕ, ◌+◌, ◌≤◌, ◌<◌}
-use mathlib.Core.List.{List, ◌++◌}
-use mathlib.Core.Path.{◌≡◌, ap, ◌∙◌}
-use native.Mathlib.Omega.{arith}
-use lib.ListN.{length, length-append}
+use Rattle.std.specs.Prelude.{ℕ, ◌+◌, ◌≤◌, ◌<◌, List, ◌++◌, ◌≡◌, length, Result, Ok, Err}
+use Rattle.std.proofs.Common.{ap, ◌∙◌, arith, length-append}
 use Rattle.base.specs.LaidLaws.{length-laid}
 use Rattle.base.specs.Laid.{laid}
 use Rattle.big_endian.specs.Numbers.{two}
 use Rattle.buffers.specs.Put.{put}
 use Rattle.buffers.specs.PutLaws.{put_laid, put_behind}
+use Rattle.wire.specs.declared.refusal.Refusal.{Refusal}
 use Rattle.attribute.specs.Attribute.{bytes_of}
-use Rattle.write_begin.specs.declared.Written.TheVariants.{Total, Refused}
 use Rattle.write_plan.specs.Plan.{plan_of}
 use Rattle.write_plan.proofs.PlanLaws.{Going, going}
-use Rattle.write_plan.specs.declared.Plan.{Plan}
-use Rattle.write_plan.specs.declared.Plan.TheVariants.{Go, No}
+use Rattle.write_plan.specs.declared.Room.{Room}
 use Rattle.write_raw.specs.Append.{attr, answered, written, plan_for, answer, appended}
 
 -- the four parts of an attribute, one behind the other
@@ -33,35 +29,35 @@ parts d at k n v q {b1} {b2} {b3} {b4} e h p1 p2 p3 p4 =
     in
     q4 ∙ ap (λ (x : ℕ). laid d at (two k ++ two x ++ v ++ q)) e
 
-module _ (d : List ℕ) (f k : ℕ) (v q : List ℕ) {p : Plan} (e : p ≡ plan_of d f (length v) (length q)) where
+module _ (d : List ℕ) (f k : ℕ) (v q : List ℕ) {p : Result Room Refusal} (e : p ≡ plan_of d f (length v) (length q)) where
   as_plan : p ≡ plan_for d f (attr k v q)
   unfolding plan_for
   as_plan = e
 
-  pub refused : {n : ℕ} → p ≡ No n → Refused n ≡ answer d f (attr k v q)
+  pub refused : {r : Refusal} → p ≡ Err r → Err r ≡ answer d f (attr k v q)
   unfolding answer answered
   refused g = rw (← as_plan, g)
 
-  pub kept : {n : ℕ} → p ≡ No n → d ≡ appended d f (attr k v q)
+  pub kept : {r : Refusal} → p ≡ Err r → d ≡ appended d f (attr k v q)
   unfolding appended written
   kept g = rw (← as_plan, g)
 
-  module _ {at body total : ℕ} (g : p ≡ Go at body total) where
-    goes : Going d f (length v) (length q) at body total
+  module _ {r : Room} (g : p ≡ Ok r) where
+    goes : Going d f (length v) (length q) r
     goes = going g e
 
     pub value_short : length v < 65536
     value_short = omega (arith, goes)
 
-    pub attr_room : at + (4 + length v + length q) ≤ length d
+    pub attr_room : r.at + (4 + length v + length q) ≤ length d
     attr_room = omega (arith, goes)
 
-    pub total_is : Total total ≡ answer d f (attr k v q)
+    pub total_is : Ok r.total ≡ answer d f (attr k v q)
     unfolding answer answered
     total_is = rw (← as_plan, g)
 
-    pub both : {b1 b2 : List ℕ} → b1 ≡ laid d at (bytes_of (attr k v q)) → b2 ≡ put b1 2 (two body) → b2 ≡ appended d f (attr k v q)
+    pub both : {b1 b2 : List ℕ} → b1 ≡ laid d r.at (bytes_of (attr k v q)) → b2 ≡ put b1 2 (two r.body) → b2 ≡ appended d f (attr k v q)
     unfolding appended written
     both {b1} {b2} i j =
         let l : 2 + 2 ≤ length b1 = rw (i, length-laid) (omega (arith, goes)) in
-        rw (← as_plan, g) (j ∙ put_laid b1 2 (two body) l ∙ ap (λ (x : List ℕ). laid x 2 (two body)) i)
+        rw (← as_plan, g) (j ∙ put_laid b1 2 (two r.body) l ∙ ap (λ (x : List ℕ). laid x 2 (two r.body)) i)

@@ -1,27 +1,27 @@
 -- Laws of appending that other crates cite.
-use Rattle.std.specs.Prelude.{ℕ, suc, ◌+◌, ◌≤◌, List, [], ◌∷◌, ◌≡◌, length, set, drop}
+use Rattle.std.specs.Prelude.{ℕ, suc, ◌+◌, ◌≤◌, List, [], ◌∷◌, ◌≡◌, length, set, drop, Result, Ok, Err}
 use Rattle.std.proofs.Math.Path.{refl, ap}
 use Rattle.std.proofs.Common.{sym, ◌∙◌, arith, length-append, drop-set-lt}
 use Rattle.std.proofs.Math.Decide.{ℕ_discrete}
 use Rattle.std.proofs.lemmas.List.Edits.{sets}
 use Rattle.base.specs.Laid.{laid}
 use Rattle.big_endian.specs.Numbers.{two}
+use Rattle.wire.specs.Refusal.{by}
+use Rattle.wire.specs.declared.refusal.Refusal.{Refusal}
 use Rattle.attribute.specs.Attribute.{Attr, bytes_of}
-use Rattle.write_begin.specs.declared.Written.TheVariants.{Total, Refused}
 use Rattle.write_plan.specs.Plan.{message_fault, plan_of}
 use Rattle.write_plan.proofs.PlanLaws.{no_message, wrong, plan_is, Going, going}
-use Rattle.write_plan.specs.declared.Plan.{Plan}
-use Rattle.write_plan.specs.declared.Plan.TheVariants.{Go, No}
+use Rattle.write_plan.specs.declared.Room.{Room}
 use Rattle.write_raw.specs.Append.{attr, answered, written, plan_for, answer, appended}
 
 -- the number of a refusal as such: 21 goes before it
 module _ (d : List ℕ) (f : ℕ) (w : f ≡ 0 → ⊥) where
-  stopped : (n m : ℕ) → (k : ℕ) × (plan_of d f n m ≡ No k)
+  stopped : (n m : ℕ) → (r : Refusal) × (plan_of d f n m ≡ Err r)
   stopped n m = go (ℕ_discrete (message_fault d) 0)
     where
-      go : Dec (message_fault d ≡ 0) → (k : ℕ) × (plan_of d f n m ≡ No k)
-      go (yes g) = (f, sym (plan_is (wrong g w)))
-      go (no g) = (21, sym (plan_is (no_message g)))
+      go : Dec (message_fault d ≡ 0) → (r : Refusal) × (plan_of d f n m ≡ Err r)
+      go (yes g) = (by f, sym (plan_is (wrong g w)))
+      go (no g) = (by 21, sym (plan_is (no_message g)))
 
   same_plan : (n m i j : ℕ) → plan_of d f n m ≡ plan_of d f i j
   same_plan n m i j = go (ℕ_discrete (message_fault d) 0)
@@ -45,36 +45,36 @@ module _ (d : List ℕ) (f k : ℕ) (v w q : List ℕ) (e : length v ≡ length 
   unfolding answer plan_for
   answer_size = ap (λ (n : ℕ). answered (plan_of d f n (length q))) e
 
-  by_plan : (p : Plan) → p ≡ plan_of d f (length w) (length q)
-      → ((at body total : ℕ) → Going d f (length w) (length q) at body total → v ≡ w) → written d (attr k v q) p ≡ written d (attr k w q) p
+  by_plan : (p : Result Room Refusal) → p ≡ plan_of d f (length w) (length q)
+      → ((r : Room) → Going d f (length w) (length q) r → v ≡ w) → written d (attr k v q) p ≡ written d (attr k w q) p
   unfolding written
-  by_plan (No n) g h = refl
-  by_plan (Go at body total) g h = rw (h at body total (going {p = Go at body total} refl g))
+  by_plan (Err r) g h = refl
+  by_plan (Ok r) g h = rw (h r (going {p = Ok r} refl g))
 
-  pub appended_value : ((at body total : ℕ) → Going d f (length w) (length q) at body total → v ≡ w)
+  pub appended_value : ((r : Room) → Going d f (length w) (length q) r → v ≡ w)
       → appended d f (attr k v q) ≡ appended d f (attr k w q)
   unfolding appended plan_for
   appended_value h =
       ap (λ (n : ℕ). written d (attr k v q) (plan_of d f n (length q))) e ∙ by_plan (plan_of d f (length w) (length q)) refl h
 
 -- what an answer with a size says of the plan
-pub total_goes : (d : List ℕ) (f : ℕ) (a : Attr) {t : ℕ} → answer d f a ≡ Total t
-    → (at : ℕ) × (body : ℕ) × Going d f (length a.value) (length a.pad) at body t
+pub total_goes : (d : List ℕ) (f : ℕ) (a : Attr) {t : ℕ} → answer d f a ≡ Ok t
+    → (r : Room) × (r.total ≡ t) × Going d f (length a.value) (length a.pad) r
 unfolding answer answered plan_for
 total_goes d f a {t} e = go (plan_for d f a) refl e
   where
-    go : (p : Plan) → p ≡ plan_for d f a → answered p ≡ Total t → (at : ℕ) × (body : ℕ) × Going d f (length a.value) (length a.pad) at body t
-    go (Go at body total) q g = let z : total ≡ t = cc in (at, body, going (ap (λ (x : ℕ). Go at body x) z) q)
-    go (No n) q g = let z : ◌≡◌ {A = ℕ} 0 1 = cc in absurd (omega arith)
+    go : (p : Result Room Refusal) → p ≡ plan_for d f a → answered p ≡ Ok t → (r : Room) × (r.total ≡ t) × Going d f (length a.value) (length a.pad) r
+    go (Ok r) q g = let z : r.total ≡ t = cc in (r, z, going refl q)
+    go (Err r) q g = let z : ◌≡◌ {A = ℕ} 0 1 = cc in absurd (omega arith)
 
 -- NOTHING SPOILT: a refusal leaves every byte as it was
-pub refused_keeps : (d : List ℕ) (f : ℕ) (a : Attr) {k : ℕ} → answer d f a ≡ Refused k → appended d f a ≡ d
+pub refused_keeps : (d : List ℕ) (f : ℕ) (a : Attr) {r : Refusal} → answer d f a ≡ Err r → appended d f a ≡ d
 unfolding answer answered appended written
-refused_keeps d f a {k} e = go (plan_for d f a) e
+refused_keeps d f a {r} e = go (plan_for d f a) e
   where
-    go : (p : Plan) → answered p ≡ Refused k → written d a p ≡ d
-    go (No n) g = refl
-    go (Go at body total) g = let z : ◌≡◌ {A = ℕ} 0 1 = cc in absurd (omega arith)
+    go : (p : Result Room Refusal) → answered p ≡ Err r → written d a p ≡ d
+    go (Err x) g = refl
+    go (Ok x) g = let z : ◌≡◌ {A = ℕ} 0 1 = cc in absurd (omega arith)
 
 sets_behind : (s l : List ℕ) (i n : ℕ) → i + length s ≤ n → drop n (sets l i s) ≡ drop n l
 sets_behind [] l i n h = refl
@@ -85,14 +85,14 @@ unfolding laid
 laid_behind l i s n h = sets_behind s l i n h
 
 -- and an attribute that goes leaves the bytes behind the new total
-pub behind_stays : (d : List ℕ) (f : ℕ) (a : Attr) {t : ℕ} → answer d f a ≡ Total t → drop t (appended d f a) ≡ drop t d
+pub behind_stays : (d : List ℕ) (f : ℕ) (a : Attr) {t : ℕ} → answer d f a ≡ Ok t → drop t (appended d f a) ≡ drop t d
 unfolding answer answered appended written plan_for
 behind_stays d f a {t} e = go (plan_for d f a) refl e
   where
-    go : (p : Plan) → p ≡ plan_for d f a → answered p ≡ Total t → drop t (written d a p) ≡ drop t d
-    go (No n) q g = let z : ◌≡◌ {A = ℕ} 0 1 = cc in absurd (omega arith)
-    go (Go at body total) q g =
-        let z : total ≡ t = cc in
-        let w : Going d f (length a.value) (length a.pad) at body t = going (ap (λ (x : ℕ). Go at body x) z) q in
+    go : (p : Result Room Refusal) → p ≡ plan_for d f a → answered p ≡ Ok t → drop t (written d a p) ≡ drop t d
+    go (Err r) q g = let z : ◌≡◌ {A = ℕ} 0 1 = cc in absurd (omega arith)
+    go (Ok r) q g =
+        let z : r.total ≡ t = cc in
+        let w : Going d f (length a.value) (length a.pad) r = going refl q in
         let l : length (bytes_of a) ≡ 4 + (length a.value + length a.pad) = simp length-append (omega arith) in
-        laid_behind (laid d at (bytes_of a)) 2 (two body) t (omega (arith, w)) ∙ laid_behind d at (bytes_of a) t (omega (arith, w))
+        laid_behind (laid d r.at (bytes_of a)) 2 (two r.body) t (omega (arith, w)) ∙ laid_behind d r.at (bytes_of a) t (omega (arith, w))

@@ -1,33 +1,31 @@
 -- What the typed calls return and leave in the buffer.
-use Prim.Native.Nat.{ℕ, zero, suc, ◌-◌, ◌%◌, ◌<◌}
-use mathlib.Core.List.{List, [], ◌∷◌}
-use mathlib.Core.Path.{◌≡◌, refl, sym, ap, ◌∙◌}
-use native.Mathlib.Omega.{arith}
-use borrow.Author.Tests.{eq-eqb, ne_eqb}
-use lib.ListN.{length, take, drop, replicate}
+use Rattle.std.specs.Prelude.{ℕ, zero, suc, ◌-◌, ◌%◌, ◌<◌, List, [], ◌∷◌, ◌≡◌, refl, length, take, replicate, Result, Ok, Err, Option}
+use Rattle.std.proofs.Common.{sym, ap, ◌∙◌, arith, eq-eqb, ne_eqb}
 use Rattle.base.specs.Choice.{pick}
+use Rattle.wire.specs.Refusal.{refused_by}
+use Rattle.wire.proofs.RefusalLaws.{passes, refuses}
+use Rattle.wire.specs.declared.refusal.Refusal.{Refusal}
 use Rattle.attribute.specs.Attribute.{padded}
 use Rattle.registry.specs.Rows.{look, rule_in, rfc5389}
 use Rattle.registry.specs.Fault.{fault}
+use Rattle.registry.specs.declared.Row.{Row}
 use Rattle.registry.specs.declared.Rule.{Rule}
 use Rattle.registry.specs.declared.Rule.TheVariants.{Text}
-use Rattle.registry.specs.declared.Entry.{Entry}
-use Rattle.write_begin.specs.declared.Written.{Written}
 use Rattle.write_raw.specs.Append.{attr, answer, appended}
 use Rattle.write_typed.specs.Typed.{typed, refusal, is_rule, text_refusal}
 use Rattle.write_typed.proofs.Rules.{this_rule, another_rule}
 
-module _ (k : ℕ) (v : List ℕ) {x : ℕ} (e : x ≡ fault rfc5389 k v) where
-  pub taken : x ≡ 0 → 0 ≡ refusal rfc5389 k v
+module _ (k : ℕ) (v : List ℕ) {x : Result Unit Refusal} (e : x ≡ refused_by (fault rfc5389 k v)) where
+  pub taken : {u : Unit} → x ≡ Ok u → 0 ≡ refusal rfc5389 k v
   unfolding refusal
-  taken z = simp (eq-eqb (fault rfc5389 k v) 0 (sym e ∙ z))
+  taken f = simp (eq-eqb (fault rfc5389 k v) 0 (passes (fault rfc5389 k v) (sym e ∙ f)))
 
-  pub refused : (x ≡ 0 → ⊥) → 23 ≡ refusal rfc5389 k v
+  pub refused : {r : Refusal} → x ≡ Err r → 23 ≡ refusal rfc5389 k v
   unfolding refusal
-  refused z = simp (ne_eqb (fault rfc5389 k v) 0 (λ y. z (e ∙ y)))
+  refused f = simp (ne_eqb (fault rfc5389 k v) 0 (refuses (fault rfc5389 k v) (sym e ∙ f)).some)
 
 -- a text, by the rule of its type
-module _ (k : ℕ) (v : List ℕ) {x : Entry} {q : Rule} (e : x ≡ look rfc5389 k) (g : q ≡ rule_in x) where
+module _ (k : ℕ) (v : List ℕ) {x : Option Row} {q : Rule} (e : x ≡ look rfc5389 k) (g : q ≡ rule_in x) where
   by_rule : {n : ℕ} → n ≡ pick (is_rule q Text) (refusal rfc5389 k v) 23 → n ≡ text_refusal rfc5389 k v
   unfolding text_refusal
   by_rule f = f ∙ ap (λ (y : Rule). pick (is_rule y Text) (refusal rfc5389 k v) 23) (g ∙ ap rule_in e)
@@ -37,14 +35,6 @@ module _ (k : ℕ) (v : List ℕ) {x : Entry} {q : Rule} (e : x ≡ look rfc5389
 
   pub no_text : (q ≡ Text → ⊥) → 23 ≡ text_refusal rfc5389 k v
   no_text t = by_rule (rw (another_rule q Text t))
-
--- an answer and a buffer under what is wrong with a value
-module _ (d v : List ℕ) (k : ℕ) {f w : ℕ} (e : f ≡ w) where
-  pub answers : {r : Written} → r ≡ answer d f (typed k v) → r ≡ answer d w (typed k v)
-  answers g = g ∙ ap (λ (x : ℕ). answer d x (typed k v)) e
-
-  pub leaves : {b : List ℕ} → b ≡ appended d f (typed k v) → b ≡ appended d w (typed k v)
-  leaves g = g ∙ ap (λ (x : ℕ). appended d x (typed k v)) e
 
 -- the first m of three zeros
 abbrev three : List ℕ
@@ -58,14 +48,14 @@ zeros (suc (suc (suc zero))) h = refl
 zeros (suc (suc (suc (suc m)))) h = absurd (omega arith)
 
 module _ (d : List ℕ) (w k : ℕ) (v : List ℕ) where
-  same : attr k v (take ((4 - length v % 4) % 4 - 0) (drop 0 three)) ≡ typed k v
+  same : attr k v (take ((4 - length v % 4) % 4) three) ≡ typed k v
   unfolding typed
   same =
-      let m : (4 - length v % 4) % 4 - 0 ≡ padded (length v) - length v = omega arith in
+      let m : (4 - length v % 4) % 4 ≡ padded (length v) - length v = omega arith in
       ap (λ (q : List ℕ). attr k v q) (ap (λ (x : ℕ). take x three) m ∙ zeros (padded (length v) - length v) (omega arith))
 
-  pub value_answer : {r : Written} → r ≡ answer d w (attr k v (take ((4 - length v % 4) % 4 - 0) (drop 0 three))) → r ≡ answer d w (typed k v)
+  pub value_answer : {r : Result ℕ Refusal} → r ≡ answer d w (attr k v (take ((4 - length v % 4) % 4) three)) → r ≡ answer d w (typed k v)
   value_answer e = e ∙ ap (answer d w) same
 
-  pub value_buffer : {b : List ℕ} → b ≡ appended d w (attr k v (take ((4 - length v % 4) % 4 - 0) (drop 0 three))) → b ≡ appended d w (typed k v)
+  pub value_buffer : {b : List ℕ} → b ≡ appended d w (attr k v (take ((4 - length v % 4) % 4) three)) → b ≡ appended d w (typed k v)
   value_buffer e = e ∙ ap (appended d w) same

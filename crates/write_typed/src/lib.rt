@@ -8,54 +8,52 @@ ghost use Rattle.write_raw.specs.Append.{answer, appended};
 ghost use Rattle.write_typed.specs.Typed.{typed, refusal, text_refusal};
 
 use registry::Rule;
-use write_begin::Written;
+use wire::refusal::Refusal;
 use write_raw::append_unless;
 
-// 23 where a value breaks the list of types or its further rule, else 0.
+// 23 where a value breaks the list of types or its further rule, else 0. A number, since it is the `wrong` of `append_value`, and what
+// `cratehoist_refusal` answers to C.
 pub fn refusal_of(kind: u16, value: &[u8]) -> u8
     ensures { result ≡ refusal rfc5389 kind value.now }
 {
-    if registry::fault(kind, value) == 0 {
-        return 0;
+    match registry::fault(kind, value) {
+        Ok(()) => 0,
+        Err(_) => Refusal::VALUE.number,
     }
-    23
 }
 
-// Appends a value with padding of zeros, unless `wrong` refuses it.
-pub fn append_value(buf: &mut [u8], wrong: u8, kind: u16, value: &[u8]) -> Written
+// Appends a value with padding of zeros, unless `wrong` refuses it: a number of the caller's own, as in `write_raw::append_unless`.
+pub fn append_value(buf: &mut [u8], wrong: u8, kind: u16, value: &[u8]) -> Result<usize, Refusal>
     ensures { (written_said result ≡ written_said (answer buf.old wrong (typed kind value.now)))
         × (buf.new ≡ appended buf.old wrong (typed kind value.now)) }
 {
     let zeros = [0u8; 3];
     let m = (4 - value.len() % 4) % 4;
-    append_unless(buf, wrong, kind, value, &zeros[0..m])
+    append_unless(buf, wrong, kind, value, &zeros[..m])
 }
 
-// 23 where a type is no text's or the text breaks its rules, else 0.
+// The same of a text, and 23 where its type is no text's.
 fn text_refusal(kind: u16, text: &[u8]) -> u8
     ensures { result ≡ text_refusal rfc5389 kind text.now }
 {
-    let rule = registry::entry_rule(registry::entry_of(kind));
-    let Rule::Text = rule else {
-        return 23;
-    };
-    refusal_of(kind, text)
+    match registry::entry_rule(registry::entry_of(kind)) {
+        Rule::Text => refusal_of(kind, text),
+        _ => Refusal::VALUE.number,
+    }
 }
 
 // Appends a text, of any type whose rule is that of texts.
-pub fn append_text(buf: &mut [u8], kind: u16, text: &[u8]) -> Written
+pub fn append_text(buf: &mut [u8], kind: u16, text: &[u8]) -> Result<usize, Refusal>
     ensures { (written_said result ≡ written_said (answer buf.old (text_refusal rfc5389 kind text.now) (typed kind text.now)))
         × (buf.new ≡ appended buf.old (text_refusal rfc5389 kind text.now) (typed kind text.now)) }
 {
-    let wrong = text_refusal(kind, text);
-    append_value(buf, wrong, kind, text)
+    append_value(buf, text_refusal(kind, text), kind, text)
 }
 
 // Appends UNKNOWN-ATTRIBUTES: the types as they stand in a value, each two bytes, the first the higher.
-pub fn append_unknown_attributes(buf: &mut [u8], types: &[u8]) -> Written
+pub fn append_unknown_attributes(buf: &mut [u8], types: &[u8]) -> Result<usize, Refusal>
     ensures { (written_said result ≡ written_said (answer buf.old (refusal rfc5389 0x000A types.now) (typed 0x000A types.now)))
         × (buf.new ≡ appended buf.old (refusal rfc5389 0x000A types.now) (typed 0x000A types.now)) }
 {
-    let wrong = refusal_of(0x000A, types);
-    append_value(buf, wrong, 0x000A, types)
+    append_value(buf, refusal_of(0x000A, types), 0x000A, types)
 }

@@ -1,10 +1,9 @@
-use mathlib.Core.Path.{ap}
+use Rattle.std.proofs.Common.{ap}
 use Rattle.write_begin.specs.Begin.{written_said}
 use Rattle.write_begin.specs.SaidLaws.{written_one}
-use Rattle.header.specs.SaidLaws.{header_one}
 use Rattle.registry.specs.SaidLaws.{entry_one, rule_one}
 use Rattle.write_address.proofs.Values.{address_answer, address_buffer}
 use Rattle.write_address.proofs.append_address.Goals as goal
 
 pub returns : goal.returns
-returns c = (ap written_said (search (address_answer, written_one, header_one, entry_one, rule_one)), search (address_buffer, header_one, entry_one, rule_one))
+returns c = (ap written_said (search (address_answer, written_one, entry_one, rule_one)), search (address_buffer, entry_one, rule_one))

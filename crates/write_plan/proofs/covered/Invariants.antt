@@ -1,5 +1,4 @@
-use Prim.Native.Nat.{◌-◌}
-use lib.ListN.{length}
+use Rattle.std.specs.Prelude.{◌-◌, length}
 use Rattle.write_plan.proofs.Fronts.{Walking}
 use Rattle.write_plan.proofs.covered.Given as goal
 

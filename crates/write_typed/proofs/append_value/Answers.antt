@@ -1,4 +1,4 @@
-use mathlib.Core.Path.{ap}
+use Rattle.std.proofs.Common.{ap}
 use Rattle.write_begin.specs.Begin.{written_said}
 use Rattle.write_begin.specs.SaidLaws.{written_one}
 use Rattle.write_typed.proofs.Values.{value_answer, value_buffer}
