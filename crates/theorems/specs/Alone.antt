@@ -20,7 +20,7 @@ use Rattle.registry.specs.declared.Row.{Row}
 use Rattle.read_message.specs.Reading.{reading_of}
 use Rattle.read_message.specs.Whole.{Whole, attributes}
 use Rattle.read_message.proofs.WholeLaws.{Parts, parts_told, parts_whole}
-use Rattle.read_message.specs.declared.Answer.TheVariants as answer
+use Rattle.read_message.specs.Reading as answer
 
 -- the header of class c, method m and ID i, with body length 0
 abbrev pub alone : MessageClass → ℕ → List ℕ → List ℕ

@@ -9,7 +9,7 @@
 --   reserved bits dropped, or displaced       `code_written_back`; displaced on both sides alike: P9 of Sheet.antt
 --   an append that refuses every error code   `code_taken`, and `code_written_back`
 --   a constant fingerprint                    `stretch` of Stretch.antt, which it makes false
-use Rattle.std.specs.Prelude.{ℕ, ◌≤◌, ◌<◌, List, [], ◌∷◌, ◌++◌, true, ◌≡◌, refl, length, take, drop}
+use Rattle.std.specs.Prelude.{ℕ, ◌≤◌, ◌<◌, List, [], ◌∷◌, ◌++◌, true, ◌≡◌, refl, length, take, drop, Ok}
 use Rattle.std.proofs.Common.{ap, ◌∙◌, arith}
 use Rattle.base.specs.Bytes.{Bytes}
 use Rattle.utf8_spec.specs.Utf8.{is_utf8}
@@ -28,8 +28,7 @@ use Rattle.registry.specs.declared.ErrorCode.{ErrorCode}
 use Rattle.registry.specs.declared.Row.{Row}
 use Rattle.registry.specs.declared.Rule.{Rule}
 use Rattle.registry.specs.declared.Rule.TheVariants as rule
-use Rattle.registry.specs.declared.Entry.TheVariants.{Listed}
-use Rattle.read_message.specs.Reading.{reading_of}
+use Rattle.read_message.specs.Reading.{reading_of, answer_of}
 use Rattle.read_message.specs.Whole.{Whole}
 use Rattle.read_message.proofs.WholeLaws.{told}
 use Rattle.read_message.specs.declared.Reading.{Reading}
@@ -37,7 +36,6 @@ use Rattle.read_typed.specs.Typed.{without, said_by, read_of, typed_of, part_by,
 use Rattle.read_typed.specs.TypedLaws.{fields, part}
 use Rattle.read_typed.specs.WrittenLaws as written
 use Rattle.read_typed.specs.declared.Value.TheVariants.{Code, Plain}
-use Rattle.write_begin.specs.declared.Written.TheVariants.{Total}
 use Rattle.write_plan.specs.Plan.{size_of}
 use Rattle.write_raw.specs.Append.{answer, appended}
 use Rattle.write_raw.specs.AppendLaws.{total_goes}
@@ -53,7 +51,7 @@ use Rattle.round_trip.specs.Appending as append
 
 -- a whole datagram, written again by begin and a raw append for each of its attributes, is the same bytes, in any buffer with room for it
 pub written_again : (rows : List Row) (d b : List ℕ) → Bytes d → Whole rows d → length d ≤ length b → take (length d) (write b (message_of d)) ≡ d
-written_again rows d b h w room = whole.written_again rows d h (ap (λ (r : Reading). r.answer) (told rows d w)) b room
+written_again rows d b h w room = whole.written_again rows d h (ap answer_of (told rows d w)) b room
 
 -- a message that is right, written into such a buffer, is read as whole, with its class, method, ID and number of attributes
 pub read_back : (rows : List Row) (b : List ℕ) (m : Message) → Right rows m → length (bytes_of m) ≤ length b
@@ -66,7 +64,7 @@ message_back = whole.message_back
 
 -- an attribute that an append puts behind a message: from place 20 the walk visits the earlier ones at their places, then the new one as it
 -- was given, then the end
-pub appended_read : (d : List ℕ) (f : ℕ) (a : Attr) {t : ℕ} → Bytes d → a.kind < 65536 → answer d f a ≡ Total t
+pub appended_read : (d : List ℕ) (f : ℕ) (a : Attr) {t : ℕ} → Bytes d → a.kind < 65536 → answer d f a ≡ Ok t
     → (xs : List (ℕ × Attr)) → Visits (take (size_of d) d) 20 xs → Visits (take t (appended d f a)) 20 (xs ++ ((size_of d, a) ∷ []))
 appended_read = append.appended_read
 
@@ -76,24 +74,24 @@ pub record Typed (rows : List Row) (d : List ℕ) (f k : ℕ) (v : List ℕ) (t 
   pub passes : fault rows k v ≡ 0
 
 module _ (d : List ℕ) (h : Bytes d) where
-  typed_read : (rows : List Row) (f k : ℕ) (v : List ℕ) {t : ℕ} → k < 65536 → (f ≡ 0 → fault rows k v ≡ 0) → answer d f (typed k v) ≡ Total t
+  typed_read : (rows : List Row) (f k : ℕ) (v : List ℕ) {t : ℕ} → k < 65536 → (f ≡ 0 → fault rows k v ≡ 0) → answer d f (typed k v) ≡ Ok t
       → Typed rows d f k v t
   unfolding typed
   typed_read rows f k v l p e = record { visits = appended_read d f (typed k v) h l e; passes = p (total_goes d f (typed k v) e).2.right }
 
-  pub text_read : (rows : List Row) (k : ℕ) (v : List ℕ) {t : ℕ} → k < 65536 → answer d (text_refusal rows k v) (typed k v) ≡ Total t
+  pub text_read : (rows : List Row) (k : ℕ) (v : List ℕ) {t : ℕ} → k < 65536 → answer d (text_refusal rows k v) (typed k v) ≡ Ok t
       → Typed rows d (text_refusal rows k v) k v t
   text_read rows k v l e = typed_read rows (text_refusal rows k v) k v l (text_right rows k v) e
 
-  pub types_read : (v : List ℕ) {t : ℕ} → answer d (refusal rfc5389 0x000A v) (typed 0x000A v) ≡ Total t → Typed rfc5389 d (refusal rfc5389 0x000A v) 0x000A v t
+  pub types_read : (v : List ℕ) {t : ℕ} → answer d (refusal rfc5389 0x000A v) (typed 0x000A v) ≡ Ok t → Typed rfc5389 d (refusal rfc5389 0x000A v) 0x000A v t
   types_read v e = typed_read rfc5389 (refusal rfc5389 0x000A v) 0x000A v (omega arith) (no_fault rfc5389 0x000A v) e
 
-  pub code_read : (x : ErrorCode) (s : List ℕ) {t : ℕ} → answer d (code_refusal rfc5389 x s) (typed 0x0009 (code_value x s)) ≡ Total t
+  pub code_read : (x : ErrorCode) (s : List ℕ) {t : ℕ} → answer d (code_refusal rfc5389 x s) (typed 0x0009 (code_value x s)) ≡ Ok t
       → Typed rfc5389 d (code_refusal rfc5389 x s) 0x0009 (code_value x s) t
   code_read x s e = typed_read rfc5389 (code_refusal rfc5389 x s) 0x0009 (code_value x s) (omega arith) (code_right rfc5389 x s) e
 
   pub address_read : (k : ℕ) (a : SocketAddr) {t : ℕ} → k < 65536 → length a.ip ≡ 16
-      → answer d (address_refusal (rule_of rfc5389 k)) (address_attr rfc5389 d k a) ≡ Total t
+      → answer d (address_refusal (rule_of rfc5389 k)) (address_attr rfc5389 d k a) ≡ Ok t
       → Typed rfc5389 d (address_refusal (rule_of rfc5389 k)) k (address_value (given (rule_of rfc5389 k) a (front_of d).id)) t
   unfolding address_attr
   address_read k a l h e =

@@ -25,8 +25,6 @@ use Rattle.header.specs.HeaderLaws.{sized}
 use Rattle.attribute.specs.Attribute.{Attr, Body, stop, more, attrs, rest, parse, bytes_of, all_bytes}
 use Rattle.attribute.proofs.RoundTripLaws.{write_read}
 use Rattle.attribute.specs.Scan.{scan, scanned, Pass}
-use Rattle.attribute.specs.declared.Scan.{Scan}
-use Rattle.attribute.specs.declared.Scan.TheVariants.{Passed, Fault}
 use Rattle.attribute.specs.PassLaws.{passed_all}
 use Rattle.utf8_spec.specs.Utf8.{is_utf8}
 use Rattle.fingerprint.specs.Fingerprint.{fingerprint_at, printed}
@@ -36,12 +34,10 @@ use Rattle.registry.specs.Fault.{address_fault, code_fault, rule_fault, entry_fa
 use Rattle.registry.specs.declared.Row.{Row}
 use Rattle.registry.specs.declared.Rule.{Rule}
 use Rattle.registry.specs.declared.Rule.TheVariants.{Address, XorAddress, Text, Code, Types, Plain}
-use Rattle.registry.specs.declared.Entry.{Entry}
-use Rattle.registry.specs.declared.Entry.TheVariants.{Listed, Unknown}
 use Rattle.read_fingerprints.specs.Fingerprints.{print_fault, print_faults}
 use Rattle.read_message.specs.Reading.{value_faults, and_then, outcome, answered, answer_said, reading_said, reading_of}
 use Rattle.read_message.proofs.WholeLaws.{number_by, judged_answer, refused_answer}
-use Rattle.read_message.specs.declared.Answer.TheVariants.{Refused}
+use Rattle.read_message.specs.Reading.{Refused}
 use Rattle.read_message.specs.declared.Reading.{Reading}
 
 -- ---- the reading while there was a number 16
