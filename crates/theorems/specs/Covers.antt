@@ -16,7 +16,6 @@ use Rattle.read_message.specs.Reading.{reading_of, answer_of}
 use Rattle.read_message.specs.Whole.{Whole, attributes}
 use Rattle.read_message.proofs.WholeLaws.{Parts, parts, told, told_whole}
 use Rattle.read_message.specs.Reading as answer
-use Rattle.read_message.specs.declared.Reading.{Reading}
 
 module _ (rows : List Row) (d : List ℕ) (w : Whole rows d) where
   -- 4 plus the padded size, summed over the attributes, is the body length
