@@ -1,5 +1,4 @@
 // The fields of a script's line, and what they say.
-use digits::Number;
 use hex_text::Hex;
 use stun_io::parts::{between, find, plus};
 use stun_io::words::is_blank;
@@ -56,7 +55,7 @@ pub fn bytes_of(t: &[u8], out: &mut [u8]) -> Hex {
 
 // Puts a type's two bytes at a place; false where the text is no type or there is no room.
 fn put_type(t: &[u8], out: &mut [u8], at: usize) -> bool {
-    let Number::Is(n) = digits::number_of(t) else {
+    let Some(n) = digits::number_of(t) else {
         return false;
     };
     if 65535 < n {
