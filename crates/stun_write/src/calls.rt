@@ -2,7 +2,7 @@
 use crate::expected::Wanted;
 use crate::fields::{bytes_of, field, low, low_32, types_of};
 use crate::kinds::{is_address, is_text};
-use hex_text::Hex;
+use hex_text::HexFault;
 use net::{Family, SocketAddr};
 use registry::ErrorCode;
 use stun_io::parts::part;
@@ -99,9 +99,9 @@ fn fields_of(call: Call) -> [Wanted; FIELDS] {
     }
 }
 
-fn size_of(h: Hex) -> Option<u64> {
+fn size_of(h: Result<usize, HexFault>) -> Option<u64> {
     match h {
-        Hex::Bytes(n) => Some(n as u64),
+        Ok(n) => Some(n as u64),
         _ => None,
     }
 }
@@ -312,7 +312,7 @@ fn loaded(s: &[u8], store: &mut [u8]) -> Said {
     if field(s, 2).len() > 0 {
         return Said::Expected(Wanted::End);
     }
-    let Hex::Bytes(n) = bytes_of(field(s, 1), store) else {
+    let Ok(n) = bytes_of(field(s, 1), store) else {
         return Said::Expected(Wanted::Bytes);
     };
     if store.len() < n {
