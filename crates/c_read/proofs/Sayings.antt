@@ -13,25 +13,22 @@ use Rattle.read_message.specs.declared.Reading as message
 use Rattle.c_read.specs.declared.Reading.{Reading}
 use Rattle.c_read.specs.Reading.{reading_out, said, step_out}
 
-module _ (r : message.Reading) {k : ℕ} (g : k ≡ class_number r.class) where
-  by_scan : {s : Scan} → r.attributes ≡ s → reading_out (answer_said (answered r.class r.method s) []) r.id.bytes ≡ said (Ok r)
-  unfolding said
-  by_scan f = ap (λ (s : Scan). reading_out (answer_said (answered r.class r.method s) []) r.id.bytes) (sym f)
-
-  pub whole : {n : ℕ} → r.attributes ≡ Ok n
-      → record { what = 0; number = 0; message_class = k; method = r.method.code; count = n; place = 0; id = record { bytes = r.id.bytes } } ≡ said (Ok r)
-  unfolding reading_out answer_said
-  whole f = rw g (by_scan f)
-
-  pub broken : {x : Fault} → r.attributes ≡ Err x
-      → record { what = 1; number = x.reason.number; message_class = k; method = r.method.code; count = 0; place = x.place; id = record { bytes = r.id.bytes } }
-      ≡ said (Ok r)
-  unfolding reading_out answer_said
-  broken f = rw g (by_scan f)
-
 module _ {w v : Result message.Reading Refusal} (e : w ≡ v) where
-  pub read : {r : message.Reading} {x : Reading} → w ≡ Ok r → x ≡ said (Ok r) → x ≡ said v
-  read f g = g ∙ ap said (sym f ∙ e)
+  module _ {r : message.Reading} (f : w ≡ Ok r) {k : ℕ} (g : k ≡ class_number r.class) where
+    by_scan : {s : Scan} → r.attributes ≡ s → reading_out (answer_said (answered r.class r.method s) []) r.id.bytes ≡ said v
+    unfolding said
+    by_scan h = ap (λ (s : Scan). reading_out (answer_said (answered r.class r.method s) []) r.id.bytes) (sym h) ∙ ap said (sym f ∙ e)
+
+    pub whole : {n : ℕ} → r.attributes ≡ Ok n
+        → record { what = 0; number = 0; message_class = k; method = r.method.code; count = n; place = 0; id = record { bytes = r.id.bytes } } ≡ said v
+    unfolding reading_out answer_said
+    whole h = rw g (by_scan h)
+
+    pub broken : {x : Fault} → r.attributes ≡ Err x
+        → record { what = 1; number = x.reason.number; message_class = k; method = r.method.code; count = 0; place = x.place; id = record { bytes = r.id.bytes } }
+        ≡ said v
+    unfolding reading_out answer_said
+    broken h = rw g (by_scan h)
 
   pub refused : {r : Refusal} → w ≡ Err r
       → record { what = 2; number = r.number; message_class = 0; method = 0; count = 0; place = 0; id = record { bytes = replicate 12 0 } } ≡ said v

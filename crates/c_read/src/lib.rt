@@ -1,7 +1,7 @@
 // What C calls: the reading and the walk, in numbers.
 #![tactic(auto)]
 
-ghost use Rattle.std.specs.Prelude.{◌≡◌, Ok};
+ghost use Rattle.std.specs.Prelude.{◌≡◌};
 ghost use Rattle.registry.specs.Rows.{rfc5389};
 ghost use Rattle.attribute.specs.Walk.{walk_said, walk_at};
 ghost use Rattle.read_message.specs.Reading.{reading_of};
@@ -35,40 +35,35 @@ pub struct Step {
     pub next: usize,
 }
 
-// A reading of a datagram that has a header.
-fn read_said(reading: read_message::Reading) -> Reading
-    ensures { result ≡ said (Ok reading) }
-{
-    let bytes = reading.id.bytes;
-    let message_class = reading.class.as_u16();
-    let method = reading.method.code;
-    match reading.attributes {
-        Ok(count) => Reading {
-            what: 0,
-            number: 0,
-            message_class,
-            method,
-            count,
-            place: 0,
-            id: Id { bytes },
-        },
-        Err(fault) => Reading {
-            what: 1,
-            number: fault.reason.number,
-            message_class,
-            method,
-            count: 0,
-            place: fault.place,
-            id: Id { bytes },
-        },
-    }
-}
-
 pub fn cratehoist_read(datagram: &[u8]) -> Reading
     ensures { result ≡ said (reading_of rfc5389 datagram.now) }
 {
     match read_message::read(datagram) {
-        Ok(reading) => read_said(reading),
+        Ok(reading) => {
+            let bytes = reading.id.bytes;
+            let message_class = reading.class.as_u16();
+            let method = reading.method.code;
+            match reading.attributes {
+                Ok(count) => Reading {
+                    what: 0,
+                    number: 0,
+                    message_class,
+                    method,
+                    count,
+                    place: 0,
+                    id: Id { bytes },
+                },
+                Err(fault) => Reading {
+                    what: 1,
+                    number: fault.reason.number,
+                    message_class,
+                    method,
+                    count: 0,
+                    place: fault.place,
+                    id: Id { bytes },
+                },
+            }
+        }
         Err(refusal) => Reading {
             what: 2,
             number: refusal.number,

@@ -4,7 +4,7 @@
 ghost use Rattle.std.specs.Prelude.{◌≡◌, ◌+◌, get_or};
 ghost use Rattle.registry.specs.Rows.{rfc5389};
 ghost use Rattle.registry.specs.ErrorCode.{code_of};
-ghost use Rattle.read_typed.specs.Typed.{typed_said, family_numbered, ip_of, address_of, read_of, typed_of, part_of, part_at};
+ghost use Rattle.read_typed.specs.Typed.{typed_said, family_numbered, ip_of, address_of, typed_of, part_of, part_at};
 
 use net::{Family, SocketAddr, socket_addr_xor};
 use registry::{ErrorCode, Rule};
@@ -70,25 +70,18 @@ fn error_code(v: &[u8]) -> ErrorCode
     }
 }
 
-// What a value without fault says, by its type's rule.
-fn by_rule(rule: Rule, value: &[u8], id: TransactionId) -> Value
-    ensures { result ≡ read_of rule value.now id }
-{
-    match rule {
-        Rule::Address => Value::Address(address(value)),
-        Rule::XorAddress => Value::Address(socket_addr_xor(address(value), id)),
-        Rule::Code => Value::Code(error_code(value)),
-        Rule::Text | Rule::Types | Rule::Plain => Value::Plain,
-    }
-}
-
 // What a value of a type says: its fields, or 11 to 14 just as the reader would give. A type that the list doesn't have is plain.
 pub fn value_of(kind: u16, value: &[u8], id: TransactionId) -> Result<Value, Refusal>
     ensures { typed_said result ≡ typed_said (typed_of rfc5389 kind value.now id) }
 {
     let entry = registry::entry_of(kind);
     registry::entry_fault(entry, value)?;
-    Ok(by_rule(registry::entry_rule(entry), value, id))
+    match registry::entry_rule(entry) {
+        Rule::Address => Ok(Value::Address(address(value))),
+        Rule::XorAddress => Ok(Value::Address(socket_addr_xor(address(value), id))),
+        Rule::Code => Ok(Value::Code(error_code(value))),
+        Rule::Text | Rule::Types | Rule::Plain => Ok(Value::Plain),
+    }
 }
 
 // The part that goes with it: the phrase of an ERROR-CODE, the whole value where it is plain, and else an empty part.

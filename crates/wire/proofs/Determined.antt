@@ -2,6 +2,7 @@
 use Rattle.std.specs.Prelude.{ℕ, Result}
 use Rattle.base.specs.DeterminedLaws.{by}
 use Rattle.base.specs.Determined.{Determines}
+use Rattle.wire.specs.Refusal.{number_of, refused_by}
 use Rattle.wire.specs.TypeNumber.{class_number, class_numbered, method_made, type_number, type_from}
 use Rattle.wire.specs.TypeLaws.{class_is}
 use Rattle.wire.specs.SaidLaws.{new_method_one, type_number_one, from_number_one}
@@ -21,6 +22,10 @@ use Rattle.wire.proofs.types.MessageType.as_u16.Kinds as number_kinds
 use Rattle.wire.proofs.types.MessageType.as_u16.Reads as number_reads
 use Rattle.wire.proofs.types.MessageType.from_u16.Kinds as from_kinds
 use Rattle.wire.proofs.types.MessageType.from_u16.Reads as from_reads
+use Rattle.wire.proofs.refusal.number_of.Kinds as back_kinds
+use Rattle.wire.proofs.refusal.number_of.Reads as back_reads
+use Rattle.wire.proofs.refusal.refused_by.Kinds as refused_kinds
+use Rattle.wire.proofs.refusal.refused_by.Reads as refused_reads
 
 pub determined-Method-new : Determines new_kinds.ps new_kinds.r {I = ℕ} {A = Result Method Refusal} new_reads.Asked new_reads.Learnt (λ κs a. a.0) (λ κs z e. z)
 determined-Method-new = by new_kinds.ps new_kinds.r new_reads.Asked new_reads.Learnt _ _ method_made (λ κs a y d i q. new_method_one q)
@@ -40,3 +45,10 @@ determined-MessageType-as_u16 = by number_kinds.ps number_kinds.r number_reads.A
 
 pub determined-MessageType-from_u16 : Determines from_kinds.ps from_kinds.r {I = ℕ} {A = Result MessageType Refusal} from_reads.Asked from_reads.Learnt (λ κs a. a.0) (λ κs z e. z)
 determined-MessageType-from_u16 = by from_kinds.ps from_kinds.r from_reads.Asked from_reads.Learnt _ _ type_from (λ κs a y d i q. from_number_one q)
+
+pub determined-number_of : Determines back_kinds.ps back_kinds.r {I = Result Unit Refusal} {A = ℕ} back_reads.Asked back_reads.Learnt (λ κs a. a.0) (λ κs z e. z)
+determined-number_of = by back_kinds.ps back_kinds.r back_reads.Asked back_reads.Learnt _ _ number_of (λ κs a y d i q. q)
+
+pub determined-refused_by : Determines refused_kinds.ps refused_kinds.r {I = ℕ} {A = Result Unit Refusal} refused_reads.Asked refused_reads.Learnt
+    (λ κs a. a.0) (λ κs z e. z)
+determined-refused_by = by refused_kinds.ps refused_kinds.r refused_reads.Asked refused_reads.Learnt _ _ refused_by (λ κs a y d i q. q)
