@@ -1,39 +1,42 @@
 -- What the calls return, case by case.
-use Prim.Native.Nat.{ℕ}
-use mathlib.Core.List.{[]}
-use mathlib.Core.Path.{◌≡◌, sym, ap, ◌∙◌}
+use Rattle.std.specs.Prelude.{ℕ, [], ◌≡◌, replicate, Result, Ok, Err}
+use Rattle.std.proofs.Common.{sym, ap, ◌∙◌}
 use Rattle.wire.specs.TypeNumber.{class_number}
-use Rattle.wire.specs.declared.method.Method.{Method}
-use Rattle.wire.specs.declared.types.MessageClass.{MessageClass}
+use Rattle.wire.specs.declared.refusal.Refusal.{Refusal}
+use Rattle.attribute.specs.Scan.{Scan}
+use Rattle.attribute.specs.declared.Fault.{Fault}
 use Rattle.attribute.specs.Walk.{walk_said}
 use Rattle.attribute.specs.declared.Walk.{Walk}
 use Rattle.attribute.specs.declared.Walk.TheVariants.{Attribute, End, Cut}
-use Rattle.read_message.specs.Reading.{answer_said}
-use Rattle.read_message.specs.declared.Answer.{Answer}
-use Rattle.read_message.specs.declared.Answer.TheVariants.{Whole, Broken, Refused}
+use Rattle.read_message.specs.Reading.{answered, answer_said}
 use Rattle.read_message.specs.declared.Reading as message
+use Rattle.c_read.specs.declared.Reading.{Reading}
 use Rattle.c_read.specs.Reading.{reading_out, said, step_out}
 
-module _ {r x : message.Reading} (e : r ≡ x) where
-  by_answer : (a : Answer) → r.answer ≡ a → reading_out (answer_said a []) r.id.bytes ≡ said x
+module _ (r : message.Reading) {k : ℕ} (g : k ≡ class_number r.class) where
+  by_scan : {s : Scan} → r.attributes ≡ s → reading_out (answer_said (answered r.class r.method s) []) r.id.bytes ≡ said (Ok r)
   unfolding said
-  by_answer a f = ap (λ (y : Answer). reading_out (answer_said y []) r.id.bytes) (sym f) ∙ ap said e
+  by_scan f = ap (λ (s : Scan). reading_out (answer_said (answered r.class r.method s) []) r.id.bytes) (sym f)
 
-  module _ {c : MessageClass} {m : Method} {k : ℕ} (g : k ≡ class_number c) where
-    pub whole : {n : ℕ} → r.answer ≡ Whole c m n
-        → record { what = 0; number = 0; message_class = k; method = m.code; count = n; place = 0; id = record { bytes = r.id.bytes } } ≡ said x
-    unfolding reading_out answer_said
-    whole {n} f = rw g (by_answer (Whole c m n) f)
-
-    pub broken : {n p : ℕ} → r.answer ≡ Broken c m n p
-        → record { what = 1; number = n; message_class = k; method = m.code; count = 0; place = p; id = record { bytes = r.id.bytes } } ≡ said x
-    unfolding reading_out answer_said
-    broken {n} {p} f = rw g (by_answer (Broken c m n p) f)
-
-  pub refused : {n : ℕ} → r.answer ≡ Refused n
-      → record { what = 2; number = n; message_class = 0; method = 0; count = 0; place = 0; id = record { bytes = r.id.bytes } } ≡ said x
+  pub whole : {n : ℕ} → r.attributes ≡ Ok n
+      → record { what = 0; number = 0; message_class = k; method = r.method.code; count = n; place = 0; id = record { bytes = r.id.bytes } } ≡ said (Ok r)
   unfolding reading_out answer_said
-  refused {n} f = by_answer (Refused n) f
+  whole f = rw g (by_scan f)
+
+  pub broken : {x : Fault} → r.attributes ≡ Err x
+      → record { what = 1; number = x.reason.number; message_class = k; method = r.method.code; count = 0; place = x.place; id = record { bytes = r.id.bytes } }
+      ≡ said (Ok r)
+  unfolding reading_out answer_said
+  broken f = rw g (by_scan f)
+
+module _ {w v : Result message.Reading Refusal} (e : w ≡ v) where
+  pub read : {r : message.Reading} {x : Reading} → w ≡ Ok r → x ≡ said (Ok r) → x ≡ said v
+  read f g = g ∙ ap said (sym f ∙ e)
+
+  pub refused : {r : Refusal} → w ≡ Err r
+      → record { what = 2; number = r.number; message_class = 0; method = 0; count = 0; place = 0; id = record { bytes = replicate 12 0 } } ≡ said v
+  unfolding reading_out answer_said said
+  refused f = ap said (sym f ∙ e)
 
 module _ (w : Walk) where
   pub attribute : {p k v n x : ℕ} → w ≡ Attribute p k v n x

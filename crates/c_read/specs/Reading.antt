@@ -1,8 +1,9 @@
 -- What C is told of a reading and of a step of the walk: what the library's answer says, field by field, and nought where it says nothing.
-use Rattle.std.specs.Prelude.{ℕ, List, [], eqb, get_or}
+use Rattle.std.specs.Prelude.{ℕ, List, [], eqb, get_or, Result}
 use Rattle.base.specs.Choice.{pick}
 use Rattle.base.specs.Said.{Said}
-use Rattle.read_message.specs.Reading.{answer_said}
+use Rattle.wire.specs.declared.refusal.Refusal.{Refusal}
+use Rattle.read_message.specs.Reading.{answer_of, id_in, answer_said}
 use Rattle.read_message.specs.declared.Reading as message
 use Rattle.c_read.specs.declared.Reading.{Reading}
 use Rattle.c_read.specs.declared.Step.{Step}
@@ -20,8 +21,8 @@ reading_out s id = record {
 }
 
 -- what the answer says, with the ID beside it
-unfoldable pub said : message.Reading → Reading
-said r = reading_out (answer_said r.answer []) r.id.bytes
+unfoldable pub said : Result message.Reading Refusal → Reading
+said r = reading_out (answer_said (answer_of r) []) (id_in r)
 
 -- the place, and of an attribute also its type, its value's place and size, and where the next one starts
 unfoldable pub step_out : Said → Step

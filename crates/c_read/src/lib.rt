@@ -1,14 +1,14 @@
 // What C calls: the reading and the walk, in numbers.
 #![tactic(auto)]
 
-ghost use Rattle.std.specs.Prelude.{◌≡◌};
+ghost use Rattle.std.specs.Prelude.{◌≡◌, Ok};
 ghost use Rattle.registry.specs.Rows.{rfc5389};
 ghost use Rattle.attribute.specs.Walk.{walk_said, walk_at};
 ghost use Rattle.read_message.specs.Reading.{reading_of};
 ghost use Rattle.c_read.specs.Reading.{said, step_out};
 
+use attribute::Walk;
 use c_wire::Id;
-use read_message::Answer;
 
 // `what` is 0 for whole, 1 for broken and 2 for refused; `number` is 0 where whole.
 #[repr(C)]
@@ -35,57 +35,57 @@ pub struct Step {
     pub next: usize,
 }
 
-pub fn cratehoist_read(datagram: &[u8]) -> Reading
-    ensures { result ≡ said (reading_of rfc5389 datagram.now) }
+// A reading of a datagram that has a header.
+fn read_said(reading: read_message::Reading) -> Reading
+    ensures { result ≡ said (Ok reading) }
 {
-    let reading = read_message::read(datagram);
-    let answer = reading.answer;
     let bytes = reading.id.bytes;
-    match answer {
-        Answer::Whole {
-            class,
-            method,
-            count,
-        } => Reading {
+    let message_class = reading.class.as_u16();
+    let method = reading.method.code;
+    match reading.attributes {
+        Ok(count) => Reading {
             what: 0,
             number: 0,
-            message_class: class.as_u16(),
-            method: method.code,
+            message_class,
+            method,
             count,
             place: 0,
-            id: Id { bytes: bytes },
+            id: Id { bytes },
         },
-        Answer::Broken {
-            class,
-            method,
-            reason,
-            place,
-        } => Reading {
+        Err(fault) => Reading {
             what: 1,
-            number: reason,
-            message_class: class.as_u16(),
-            method: method.code,
+            number: fault.reason.number,
+            message_class,
+            method,
             count: 0,
-            place,
-            id: Id { bytes: bytes },
-        },
-        Answer::Refused { number } => Reading {
-            what: 2,
-            number,
-            message_class: 0,
-            method: 0,
-            count: 0,
-            place: 0,
-            id: Id { bytes: bytes },
+            place: fault.place,
+            id: Id { bytes },
         },
     }
 }
 
-fn step_said(w: attribute::Walk) -> Step
+pub fn cratehoist_read(datagram: &[u8]) -> Reading
+    ensures { result ≡ said (reading_of rfc5389 datagram.now) }
+{
+    match read_message::read(datagram) {
+        Ok(reading) => read_said(reading),
+        Err(refusal) => Reading {
+            what: 2,
+            number: refusal.number,
+            message_class: 0,
+            method: 0,
+            count: 0,
+            place: 0,
+            id: Id { bytes: [0; 12] },
+        },
+    }
+}
+
+fn step_said(w: Walk) -> Step
     ensures { result ≡ step_out (walk_said w) }
 {
     match w {
-        attribute::Walk::Attribute {
+        Walk::Attribute {
             at,
             kind,
             value,
@@ -99,7 +99,7 @@ fn step_said(w: attribute::Walk) -> Step
             size,
             next,
         },
-        attribute::Walk::End { at } => Step {
+        Walk::End { at } => Step {
             what: 1,
             kind: 0,
             place: at,
@@ -107,7 +107,7 @@ fn step_said(w: attribute::Walk) -> Step
             size: 0,
             next: 0,
         },
-        attribute::Walk::Cut { at } => Step {
+        Walk::Cut { at } => Step {
             what: 2,
             kind: 0,
             place: at,

@@ -7,6 +7,10 @@ ghost use Rattle.registry.specs.Rows.{rfc5389};
 ghost use Rattle.read_first.specs.First.{first_said, first_in, first, placed};
 ghost use Rattle.read_integrity.specs.Integrity.{integrity_fault};
 ghost use Rattle.c_value.specs.Part.{first_out, value_in, realm_in};
+
+use read_first::Found;
+use wire::refusal::number_of;
+
 // Where the first attribute of a type starts, and the size of its value.
 #[repr(C)]
 #[derive(Clone, Copy)]
@@ -24,16 +28,16 @@ pub struct Part {
     pub size: usize,
 }
 
-fn first_said(f: read_first::First) -> First
-    ensures { result ≡ first_out (first_said f) }
+fn first_said(found: Option<Found>) -> First
+    ensures { result ≡ first_out (first_said found) }
 {
-    match f {
-        read_first::First::Found { at, size } => First {
+    match found {
+        Some(found) => First {
             there: true,
-            place: at,
-            size,
+            place: found.at,
+            size: found.size,
         },
-        read_first::First::Absent => First {
+        None => First {
             there: false,
             place: 0,
             size: 0,
@@ -50,17 +54,16 @@ pub fn cratehoist_search(bytes: &[u8], kind: u16) -> First
 pub fn cratehoist_first_value(datagram: &[u8], kind: u16) -> Part
     ensures { result ≡ value_in (first rfc5389 kind datagram.now) }
 {
-    let f = read_first::find(datagram, kind);
-    match f {
-        read_first::First::Found { at, size } => {
-            let start = at + 4;
+    match read_first::find(datagram, kind) {
+        Some(found) => {
+            let start = found.at + 4;
             Part {
                 there: true,
                 start,
-                size,
+                size: found.size,
             }
         }
-        read_first::First::Absent => Part {
+        None => Part {
             there: false,
             start: 0,
             size: 0,
@@ -72,17 +75,13 @@ pub fn cratehoist_first_value(datagram: &[u8], kind: u16) -> Part
 pub fn cratehoist_realm(datagram: &[u8], configured: &[u8]) -> Part
     ensures { result ≡ realm_in datagram.now configured.now }
 {
-    let f = read_first::find(datagram, read_realm::REALM);
-    match f {
-        read_first::First::Found { at, size } => {
-            let own = at + 4;
-            Part {
-                there: true,
-                start: own,
-                size,
-            }
-        }
-        read_first::First::Absent => Part {
+    match read_first::find(datagram, read_realm::REALM) {
+        Some(found) => Part {
+            there: true,
+            start: found.at + 4,
+            size: found.size,
+        },
+        None => Part {
             there: false,
             start: 0,
             size: configured.len(),
@@ -93,5 +92,5 @@ pub fn cratehoist_realm(datagram: &[u8], configured: &[u8]) -> Part
 pub fn cratehoist_check_integrity(datagram: &[u8], key: &[u8]) -> u8
     ensures { result ≡ integrity_fault rfc5389 datagram.now key.now }
 {
-    read_integrity::check_integrity(datagram, key)
+    number_of(read_integrity::check_integrity(datagram, key))
 }

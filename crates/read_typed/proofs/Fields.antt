@@ -1,14 +1,12 @@
 -- What the calls return, case by case.
-use Prim.Native.Nat.{ℕ, ◌+◌, ◌*◌, ◌-◌, ◌/◌, ◌%◌, ◌≤◌, ◌<◌}
-use mathlib.Core.List.{List, []}
-use mathlib.Core.Path.{◌≡◌, sym, ap, ◌∙◌}
-use native.Mathlib.Omega.{arith}
-use borrow.Author.Tests.{eq-eqb, ne_eqb}
-use lib.ListN.{length, get_or, take, drop, replicate, length-drop, drop_of_length-le, get_or-eq_default}
-use lib.Seq.{take_all}
+use Rattle.std.specs.Prelude.{ℕ, ◌+◌, ◌*◌, ◌-◌, ◌/◌, ◌%◌, ◌≤◌, ◌<◌, List, [], ◌≡◌, length, get_or, take, drop, replicate, Option, Result, Ok, Err}
+use Rattle.std.proofs.Common.{sym, ap, ◌∙◌, arith, eq-eqb, ne_eqb, length-drop, drop_of_length-le, take_all}
 use Rattle.base.specs.Laid.{laid}
 use Rattle.big_endian.specs.Numbers.{be16}
 use Rattle.buffers.specs.Put.{fits_at, put}
+use Rattle.wire.specs.Refusal.{by, refused_by}
+use Rattle.wire.proofs.RefusalLaws.{Refuses, refuses, passes}
+use Rattle.wire.specs.declared.refusal.Refusal.{Refusal}
 use Rattle.wire.specs.declared.transaction_id.TransactionId.{TransactionId}
 use Rattle.net.specs.Net.{addr_xor}
 use Rattle.net.specs.declared.Family.{Family}
@@ -18,15 +16,12 @@ use Rattle.registry.specs.Rows.{rfc5389, look, rule_in}
 use Rattle.registry.specs.Fault.{entry_fault, fault}
 use Rattle.registry.specs.ErrorCode.{code_of}
 use Rattle.registry.specs.declared.ErrorCode.{ErrorCode}
-use Rattle.registry.specs.declared.Entry.{Entry}
+use Rattle.registry.specs.declared.Row.{Row}
 use Rattle.registry.specs.declared.Rule.{Rule}
 use Rattle.registry.specs.declared.Rule.TheVariants as rule
-use Rattle.read_typed.specs.declared.Value.TheVariants.{Code, Plain, Refused}
-use Rattle.read_typed.specs.declared.Typed.{Typed}
-use Rattle.read_typed.specs.Typed.{family_numbered, ip_of, address_of, without, said_by, read_of, typed_of}
-
-pub no_byte : (v : List ℕ) (i : ℕ) → length v ≤ i → 0 ≡ get_or v i 0
-no_byte v i h = sym (get_or-eq_default v 0 {n = i} h)
+use Rattle.read_typed.specs.declared.Value.{Value}
+use Rattle.read_typed.specs.declared.Value.TheVariants.{Address, Code, Plain}
+use Rattle.read_typed.specs.Typed.{family_numbered, ip_of, address_of, read_of, typed_of}
 
 pub family_1 : (n : ℕ) → n ≡ 1 → Ipv4 ≡ family_numbered n
 family_1 n e = simp (eq-eqb n 1 e)
@@ -54,44 +49,46 @@ ip v h e =
     let t : take (length v - 4) (drop 4 v) ≡ drop 4 v = take_all (length v - 4) (drop 4 v) (simp length-drop (omega arith)) in
     e ∙ ap (put (replicate 16 0) 0) t
 
-module _ (k : ℕ) (v : List ℕ) {x : Entry} (w : x ≡ look rfc5389 k) {f : ℕ} (e : f ≡ entry_fault x v) where
-  is_fault : f ≡ fault rfc5389 k v
+module _ (k : ℕ) (v : List ℕ) {x : Option Row} (w : x ≡ look rfc5389 k) {j : Result Unit Refusal} (e : j ≡ refused_by (entry_fault x v)) where
+  is_fault : entry_fault x v ≡ fault rfc5389 k v
   unfolding fault
-  is_fault = e ∙ ap (λ (y : Entry). entry_fault y v) w
+  is_fault = ap (λ (y : Option Row). entry_fault y v) w
 
-  pub faulty : (id : TransactionId) {r : Typed} → (f ≡ 0 → ⊥) → r ≡ without (Refused f) → r ≡ typed_of rfc5389 k v id
+  pub faulty : (id : TransactionId) {r : Refusal} → j ≡ Err r → Err r ≡ typed_of rfc5389 k v id
   unfolding typed_of
-  faulty id n g =
-      let m : fault rfc5389 k v ≡ 0 → ⊥ = λ z. n (is_fault ∙ z) in
-      simp (ne_eqb (fault rfc5389 k v) 0 m) (g ∙ ap (λ (y : ℕ). without (Refused y)) is_fault)
+  faulty id {r} g =
+      let n : Refuses (entry_fault x v) r = refuses (entry_fault x v) (sym e ∙ g) in
+      let m : fault rfc5389 k v ≡ 0 → ⊥ = λ z. n.some (is_fault ∙ z) in
+      ap (λ (y : Refusal). Err y) (n.refusal ∙ ap by is_fault) ∙ simp (ne_eqb (fault rfc5389 k v) 0 m)
 
-  module _ (z : f ≡ 0) {q : Rule} (g : q ≡ rule_in x) where
-    by_rule : (id : TransactionId) {r : Typed} → r ≡ read_of q v id → r ≡ typed_of rfc5389 k v id
-    unfolding typed_of
-    by_rule id h =
-        simp (eq-eqb (fault rfc5389 k v) 0 (sym is_fault ∙ z)) (h ∙ ap (λ (y : Rule). read_of y v id) (g ∙ ap rule_in w))
+  pub read : (id : TransactionId) {u : Unit {0}} {q : Rule} {a : Value} → j ≡ Ok u → q ≡ rule_in x → a ≡ read_of q v id → Ok a ≡ typed_of rfc5389 k v id
+  unfolding typed_of
+  read id f g h =
+      simp (eq-eqb (fault rfc5389 k v) 0 (sym is_fault ∙ passes (entry_fault x v) (sym e ∙ f)))
+      (ap (λ (y : Value). Ok y) (h ∙ ap (λ (y : Rule). read_of y v id) (g ∙ ap rule_in w)))
 
-    pub address : (id : TransactionId) {a : SocketAddr} {r : Typed} → q ≡ rule.Address → a ≡ address_of v → r ≡ said_by a → r ≡ typed_of rfc5389 k v id
-    unfolding read_of
-    address id i m o = by_rule id (rw i (o ∙ ap said_by m))
+-- the arms of the match on the rule
+module _ (v : List ℕ) (id : TransactionId) {q : Rule} where
+  pub address : {a : SocketAddr} → q ≡ rule.Address → a ≡ address_of v → Address a ≡ read_of q v id
+  unfolding read_of
+  address i m = rw i (ap (λ (y : SocketAddr). Address y) m)
 
-    pub xor_address : (id : TransactionId) {a b : SocketAddr} {r : Typed} → q ≡ rule.XorAddress → a ≡ address_of v → b ≡ addr_xor a id → r ≡ said_by b
-        → r ≡ typed_of rfc5389 k v id
-    unfolding read_of
-    xor_address id i m n o = by_rule id (rw i (o ∙ ap said_by (n ∙ ap (λ (y : SocketAddr). addr_xor y id) m)))
+  pub xor_address : {a b : SocketAddr} → q ≡ rule.XorAddress → a ≡ address_of v → b ≡ addr_xor a id → Address b ≡ read_of q v id
+  unfolding read_of
+  xor_address i m n = rw i (ap (λ (y : SocketAddr). Address y) (n ∙ ap (λ (y : SocketAddr). addr_xor y id) m))
 
-    pub code : (id : TransactionId) {y : ErrorCode} {r : Typed} → q ≡ rule.Code → y ≡ code_of v → r ≡ without (Code y) → r ≡ typed_of rfc5389 k v id
-    unfolding read_of
-    code id i m o = by_rule id (rw i (o ∙ ap (λ (e : ErrorCode). without (Code e)) m))
+  pub code : {y : ErrorCode} → q ≡ rule.Code → y ≡ code_of v → Code y ≡ read_of q v id
+  unfolding read_of
+  code i m = rw i (ap (λ (y : ErrorCode). Code y) m)
 
-    pub text : (id : TransactionId) {r : Typed} → q ≡ rule.Text → r ≡ without Plain → r ≡ typed_of rfc5389 k v id
-    unfolding read_of
-    text id i o = by_rule id (rw i o)
+  pub text : q ≡ rule.Text → Plain ≡ read_of q v id
+  unfolding read_of
+  text i = rw i
 
-    pub types : (id : TransactionId) {r : Typed} → q ≡ rule.Types → r ≡ without Plain → r ≡ typed_of rfc5389 k v id
-    unfolding read_of
-    types id i o = by_rule id (rw i o)
+  pub types : q ≡ rule.Types → Plain ≡ read_of q v id
+  unfolding read_of
+  types i = rw i
 
-    pub plain : (id : TransactionId) {r : Typed} → q ≡ rule.Plain → r ≡ without Plain → r ≡ typed_of rfc5389 k v id
-    unfolding read_of
-    plain id i o = by_rule id (rw i o)
+  pub plain : q ≡ rule.Plain → Plain ≡ read_of q v id
+  unfolding read_of
+  plain i = rw i

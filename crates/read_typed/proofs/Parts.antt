@@ -1,31 +1,32 @@
 -- What `part_of` returns, case by case: the bytes, and where they lie.
-use Prim.Native.Nat.{ℕ, ◌+◌, ◌-◌, ◌≤◌}
-use mathlib.Core.List.{List, []}
-use mathlib.Core.Path.{◌≡◌, refl, sym, ap, ◌∙◌}
-use native.Mathlib.Omega.{arith}
-use borrow.Author.Tests.{eq-eqb, ne_eqb}
-use lib.ListN.{length, take, drop, length-drop}
-use lib.Seq.{take_all}
+use Rattle.std.specs.Prelude.{ℕ, ◌+◌, ◌-◌, ◌≤◌, List, [], true, false, ◌≡◌, refl, length, take, drop, Option, Result, is_err}
+use Rattle.std.proofs.Common.{sym, ap, ◌∙◌, arith, eq-eqb, ne_eqb, length-drop, take_all}
+use Rattle.wire.specs.Refusal.{refused_by}
+use Rattle.wire.proofs.RefusalLaws.{fails, stands}
+use Rattle.wire.specs.declared.refusal.Refusal.{Refusal}
 use Rattle.registry.specs.Rows.{look, rfc5389, rule_in, rule_of}
 use Rattle.registry.specs.ErrorCodeLaws.{passes}
 use Rattle.registry.specs.Fault.{rule_fault, entry_fault, fault}
 use Rattle.registry.specs.FaultLaws.{rule_passes}
-use Rattle.registry.specs.declared.Entry.{Entry}
+use Rattle.registry.specs.declared.Row.{Row}
 use Rattle.registry.specs.declared.Rule.{Rule}
 use Rattle.registry.specs.declared.Rule.TheVariants.{Address, XorAddress, Text, Code, Types, Plain}
 use Rattle.read_typed.specs.Typed.{part_by, part_of, start_by, part_at}
 
 -- a value that passes the rule of a code has four bytes
-four : (x : Entry) (v : List ℕ) → rule_in x ≡ Code → entry_fault x v ≡ 0 → 4 ≤ length v
+four : (x : Option Row) (v : List ℕ) → rule_in x ≡ Code → entry_fault x v ≡ 0 → 4 ≤ length v
 unfolding rule_fault
 four x v h e = (passes v (ap (λ (q : Rule). rule_fault q v) (sym h) ∙ rule_passes x v e)).0
 
-module _ (k : ℕ) (v : List ℕ) {x : Entry} (w : x ≡ look rfc5389 k) {f : ℕ} (i : f ≡ entry_fault x v) where
-  e : f ≡ fault rfc5389 k v
+module _ (k : ℕ) (v : List ℕ) {x : Option Row} (w : x ≡ look rfc5389 k) {j : Result Unit Refusal} (i : j ≡ refused_by (entry_fault x v)) where
+  e : entry_fault x v ≡ fault rfc5389 k v
   unfolding fault
-  e = i ∙ ap (λ (y : Entry). entry_fault y v) w
+  e = ap (λ (y : Option Row). entry_fault y v) w
 
-  module _ (n : f ≡ 0 → ⊥) where
+  module _ (f : is_err j ≡ true) where
+    n : entry_fault x v ≡ 0 → ⊥
+    n = fails (entry_fault x v) (sym (ap is_err i) ∙ f)
+
     pub faulty : [] ≡ part_of rfc5389 k v
     unfolding part_of
     faulty = let m : fault rfc5389 k v ≡ 0 → ⊥ = λ z. n (e ∙ z) in simp (ne_eqb (fault rfc5389 k v) 0 m)
@@ -34,7 +35,10 @@ module _ (k : ℕ) (v : List ℕ) {x : Entry} (w : x ≡ look rfc5389 k) {f : �
     unfolding part_at
     faulty_at b o = let m : fault rfc5389 k v ≡ 0 → ⊥ = λ z. n (e ∙ z) in simp (ne_eqb (fault rfc5389 k v) 0 m)
 
-  module _ (z : f ≡ 0) {q : Rule} (u : q ≡ rule_in x) where
+  module _ (f : is_err j ≡ false) {q : Rule} (u : q ≡ rule_in x) where
+    z : entry_fault x v ≡ 0
+    z = stands (entry_fault x v) (sym (ap is_err i) ∙ f)
+
     g : q ≡ rule_of rfc5389 k
     g = u ∙ ap rule_in w
 
@@ -64,7 +68,7 @@ module _ (k : ℕ) (v : List ℕ) {x : Entry} (w : x ≡ look rfc5389 k) {f : �
 
     module _ (h : q ≡ Code) where
       pub room : 4 ≤ length v
-      room = four x v (sym u ∙ h) (sym i ∙ z)
+      room = four x v (sym u ∙ h) z
 
       pub phrase : take (length v - 4) (drop 4 v) ≡ part_of rfc5389 k v
       unfolding part_by

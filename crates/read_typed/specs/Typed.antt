@@ -1,9 +1,11 @@
 -- Typed reading: what a value says, by its type (RFC 5389 sections 15.1, 15.2 and 15.6; docs/SCOPE.md, "Typed reading").
-use Rattle.std.specs.Prelude.{ℕ, List, [], ◌∷◌, get_or, drop, replicate, eqb}
+use Rattle.std.specs.Prelude.{ℕ, List, [], ◌∷◌, get_or, drop, replicate, eqb, Result, Ok, Err}
 use Rattle.base.specs.Choice.{pick}
 use Rattle.base.specs.Said.{Said, says}
 use Rattle.big_endian.specs.Numbers.{be16}
 use Rattle.buffers.specs.Put.{put}
+use Rattle.wire.specs.Refusal.{by}
+use Rattle.wire.specs.declared.refusal.Refusal.{Refusal}
 use Rattle.wire.specs.declared.transaction_id.TransactionId.{TransactionId}
 use Rattle.net.specs.Net.{family_number, addr_xor}
 use Rattle.net.specs.declared.Family.{Family}
@@ -16,19 +18,18 @@ use Rattle.registry.specs.declared.Row.{Row}
 use Rattle.registry.specs.declared.Rule.{Rule}
 use Rattle.registry.specs.declared.Rule.TheVariants as rule
 use Rattle.read_typed.specs.declared.Value.{Value}
-use Rattle.read_typed.specs.declared.Value.TheVariants.{Address, Code, Plain, Refused}
-use Rattle.read_typed.specs.declared.Typed.{Typed}
+use Rattle.read_typed.specs.declared.Value.TheVariants.{Address, Code, Plain}
 
 -- what an answer says: an address, with family and port; a code, with the reserved number; plain bytes; or refused by 11 to 14; and the 16
--- bytes of the IP
-unfoldable pub value_said : Value → List ℕ → Said
-value_said (Address f p) i = says 0 0 (family_number f ∷ p ∷ i)
-value_said (Code e) i = says 1 0 (e.code ∷ e.reserved ∷ i)
-value_said Plain i = says 2 0 i
-value_said (Refused n) i = says 3 n i
+-- bytes of the IP, noughts where there is none
+unfoldable pub value_said : Value → Said
+value_said (Address a) = says 0 0 (family_number a.family ∷ a.port ∷ a.ip)
+value_said (Code e) = says 1 0 (e.code ∷ e.reserved ∷ replicate 16 0)
+value_said Plain = says 2 0 (replicate 16 0)
 
-unfoldable pub typed_said : Typed → Said
-typed_said t = value_said t.value t.ip
+unfoldable pub typed_said : Result Value Refusal → Said
+typed_said (Ok v) = value_said v
+typed_said (Err r) = says 3 r.number (replicate 16 0)
 
 abbrev pub family_numbered : ℕ → Family
 family_numbered n = pick (eqb n 1) Ipv4 Ipv6
@@ -41,25 +42,18 @@ ip_of v = put (replicate 16 0) 0 (drop 4 v)
 unfoldable pub address_of : List ℕ → SocketAddr
 address_of v = record { family = family_numbered (get_or v 1 0); port = be16 v 2; ip = ip_of v }
 
--- a value and no IP, and an address
-abbrev pub without : Value → Typed
-without x = record { value = x; ip = replicate 16 0 }
-
-unfoldable pub said_by : SocketAddr → Typed
-said_by a = record { value = Address a.family a.port; ip = a.ip }
-
 -- what a value without fault says, by the rule of its type: the XOR form is undone
-unfoldable pub read_of : Rule → List ℕ → TransactionId → Typed
-read_of rule.Address v id = said_by (address_of v)
-read_of rule.XorAddress v id = said_by (addr_xor (address_of v) id)
-read_of rule.Code v id = without (Code (code_of v))
-read_of rule.Text v id = without Plain
-read_of rule.Types v id = without Plain
-read_of rule.Plain v id = without Plain
+unfoldable pub read_of : Rule → List ℕ → TransactionId → Value
+read_of rule.Address v id = Address (address_of v)
+read_of rule.XorAddress v id = Address (addr_xor (address_of v) id)
+read_of rule.Code v id = Code (code_of v)
+read_of rule.Text v id = Plain
+read_of rule.Types v id = Plain
+read_of rule.Plain v id = Plain
 
--- a value at fault says 11 to 14, and all else is nought
-unfoldable pub typed_of : List Row → ℕ → List ℕ → TransactionId → Typed
-typed_of rows k v id = pick (eqb (fault rows k v) 0) (read_of (rule_of rows k) v id) (without (Refused (fault rows k v)))
+-- a value at fault is refused by 11 to 14
+unfoldable pub typed_of : List Row → ℕ → List ℕ → TransactionId → Result Value Refusal
+typed_of rows k v id = pick (eqb (fault rows k v) 0) (Ok (read_of (rule_of rows k) v id)) (Err (by (fault rows k v)))
 
 -- the part of the value that goes with it: the phrase of an ERROR-CODE, nothing of an address, and else the value itself
 unfoldable pub part_by : Rule → List ℕ → List ℕ

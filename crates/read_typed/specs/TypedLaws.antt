@@ -1,5 +1,5 @@
 -- What typed reading says, in numbers: just the fault of the value; and where there is one, nothing else.
-use Rattle.std.specs.Prelude.{ℕ, List, [], Bool, true, false, ◌≡◌, refl, eqb}
+use Rattle.std.specs.Prelude.{ℕ, List, [], Bool, true, false, ◌≡◌, refl, eqb, Result, Ok, Err}
 use Rattle.std.proofs.Common.{sym, ◌∙◌, eqb-true, eq-eqb, ne_eqb}
 use Rattle.base.specs.Choice.{pick}
 use Rattle.wire.specs.declared.transaction_id.TransactionId.{TransactionId}
@@ -8,12 +8,14 @@ use Rattle.registry.specs.Fault.{fault}
 use Rattle.registry.specs.declared.Row.{Row}
 use Rattle.registry.specs.declared.Rule.{Rule}
 use Rattle.registry.specs.declared.Rule.TheVariants.{Address, XorAddress, Text, Code, Types, Plain}
-use Rattle.read_typed.specs.declared.Value.TheVariants.{Refused}
-use Rattle.read_typed.specs.Typed.{without, said_by, read_of, typed_of, part_by, part_of, value_said, typed_said}
+use Rattle.wire.specs.Refusal.{by}
+use Rattle.wire.specs.declared.refusal.Refusal.{Refusal}
+use Rattle.read_typed.specs.declared.Value.{Value}
+use Rattle.read_typed.specs.Typed.{read_of, typed_of, part_by, part_of, value_said, typed_said}
 
 -- a value without fault is read
-read_number : (q : Rule) (v : List ℕ) (id : TransactionId) → (typed_said (read_of q v id)).number ≡ 0
-unfolding read_of value_said typed_said said_by
+read_number : (q : Rule) (v : List ℕ) (id : TransactionId) → (value_said (read_of q v id)).number ≡ 0
+unfolding read_of value_said
 read_number Address v id = refl
 read_number XorAddress v id = refl
 read_number Text v id = refl
@@ -27,7 +29,7 @@ unfolding typed_of value_said typed_said
 typed_number rows k v id = go (eqb (fault rows k v) 0) refl
   where
     go : (b : Bool) → eqb (fault rows k v) 0 ≡ b
-        → (typed_said (pick b (read_of (rule_of rows k) v id) (without (Refused (fault rows k v))))).number ≡ fault rows k v
+        → (typed_said (pick {A = Result Value Refusal} b (Ok (read_of (rule_of rows k) v id)) (Err (by (fault rows k v))))).number ≡ fault rows k v
     go true e = read_number (rule_of rows k) v id ∙ sym (eqb-true (fault rows k v) 0 e)
     go false e = refl
 
@@ -38,7 +40,7 @@ no_part rows k v n = simp (ne_eqb (fault rows k v) 0 n)
 
 -- and one without is read by the rule of its type
 module _ (rows : List Row) (k : ℕ) (v : List ℕ) (z : fault rows k v ≡ 0) where
-  pub fields : (id : TransactionId) → typed_of rows k v id ≡ read_of (rule_of rows k) v id
+  pub fields : (id : TransactionId) → typed_of rows k v id ≡ Ok (read_of (rule_of rows k) v id)
   unfolding typed_of
   fields id = simp (eq-eqb (fault rows k v) 0 z)
 

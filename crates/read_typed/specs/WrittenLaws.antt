@@ -1,6 +1,6 @@
 -- An address as the bytes of a value (RFC 5389 sections 15.1 and 15.2), which typed reading gives back: plain and in XOR form, for
 -- either family.
-use Rattle.std.specs.Prelude.{ℕ, zero, suc, ◌+◌, ◌*◌, ◌/◌, ◌%◌, ◌≤◌, ◌≡◌, refl, take, replicate}
+use Rattle.std.specs.Prelude.{ℕ, zero, suc, ◌+◌, ◌*◌, ◌/◌, ◌%◌, ◌≤◌, ◌≡◌, refl, take, replicate, Some, Ok}
 use mathlib.Core.List.{List, [], ◌∷◌, ◌++◌}
 use Rattle.std.proofs.Common.{sym, ◌∙◌, le-leb, length-take}
 use Rattle.std.proofs.Math.Path.{ap}
@@ -16,13 +16,13 @@ use Rattle.net.specs.NetLaws.{length-xored, addr_twice}
 use Rattle.net.specs.declared.Family.{Family}
 use Rattle.net.specs.declared.Family.TheVariants.{Ipv4, Ipv6}
 use Rattle.net.specs.declared.SocketAddr.{SocketAddr}
-use Rattle.registry.specs.Rows.{look, rule_in}
+use Rattle.registry.specs.Rows.{row, look, rule_in}
 use Rattle.registry.specs.Fault.{fault}
 use Rattle.registry.specs.AddressLaws.{ip_small, ip_length, address_right, xor_address_right}
 use Rattle.registry.specs.declared.Rule.TheVariants.{Address, XorAddress}
-use Rattle.registry.specs.declared.Entry.TheVariants.{Listed}
 use Rattle.registry.specs.declared.Row.{Row}
-use Rattle.read_typed.specs.Typed.{family_numbered, ip_of, address_of, said_by, read_of, typed_of}
+use Rattle.read_typed.specs.Typed.{family_numbered, ip_of, address_of, read_of, typed_of}
+use Rattle.read_typed.specs.declared.Value.TheVariants.{Address as Says}
 use Rattle.read_typed.specs.TypedLaws.{fields}
 
 same_family : (f : Family) → family_numbered (family_number f) ≡ f
@@ -70,15 +70,15 @@ xor_sound a id s = record {
 
 -- written in the form of its rule, an address is read as it was: over the list of types and the kind
 module _ (rows : List Row) (k : ℕ) (a : SocketAddr) (id : TransactionId) (s : Sound a) where
-  pub plain_back : look rows k ≡ Listed 8 20 Address → typed_of rows k (address_value a) id ≡ said_by a
+  pub plain_back : look rows k ≡ Some (row k 8 20 Address) → typed_of rows k (address_value a) id ≡ Ok (Says a)
   unfolding fault rule_in read_of
   plain_back e =
-      let z : fault rows k (address_value a) ≡ 0 = rw e (address_right a s.size) in
+      let z : fault rows k (address_value a) ≡ 0 = rw e (address_right k a s.size) in
       fields rows k (address_value a) z id ∙ rw (e, address_back a s)
 
-  pub xor_back : look rows k ≡ Listed 8 20 XorAddress → typed_of rows k (address_value (addr_xor a id)) id ≡ said_by a
+  pub xor_back : look rows k ≡ Some (row k 8 20 XorAddress) → typed_of rows k (address_value (addr_xor a id)) id ≡ Ok (Says a)
   unfolding fault rule_in read_of
   xor_back e =
       let t : Sound (addr_xor a id) = xor_sound a id s in
-      let z : fault rows k (address_value (addr_xor a id)) ≡ 0 = rw e (xor_address_right (addr_xor a id) t.size) in
+      let z : fault rows k (address_value (addr_xor a id)) ≡ 0 = rw e (xor_address_right k (addr_xor a id) t.size) in
       fields rows k (address_value (addr_xor a id)) z id ∙ rw (e, address_back (addr_xor a id) t, addr_twice a id)

@@ -4,57 +4,26 @@
 ghost use Rattle.std.specs.Prelude.{◌≡◌, ◌+◌, get_or};
 ghost use Rattle.registry.specs.Rows.{rfc5389};
 ghost use Rattle.registry.specs.ErrorCode.{code_of};
-ghost use Rattle.read_typed.specs.Typed.{typed_said, family_numbered, ip_of, address_of, without, said_by, typed_of, part_of, part_at};
+ghost use Rattle.read_typed.specs.Typed.{typed_said, family_numbered, ip_of, address_of, read_of, typed_of, part_of, part_at};
 
 use net::{Family, SocketAddr, socket_addr_xor};
 use registry::{ErrorCode, Rule};
+use wire::refusal::Refusal;
 use wire::transaction_id::TransactionId;
 
 // What a value says. `Plain`: its bytes as they stand are all it says.
 #[derive(Clone, Copy)]
 pub enum Value {
-    Address { family: Family, port: u16 },
+    Address(SocketAddr),
     Code(ErrorCode),
     Plain,
-    Refused { number: u8 },
-}
-
-// The IP stands beside the value, since an enum holds no array; it is all zeros where there is none.
-#[derive(Clone, Copy)]
-pub struct Typed {
-    pub value: Value,
-    pub ip: [u8; 16],
-}
-
-fn without(value: Value) -> Typed
-    ensures { result ≡ without value }
-{
-    Typed {
-        value: value,
-        ip: [0u8; 16],
-    }
-}
-
-fn said_by(addr: SocketAddr) -> Typed
-    ensures { result ≡ said_by addr }
-{
-    let family = addr.family;
-    let port = addr.port;
-    let ip = addr.ip;
-    Typed {
-        value: Value::Address { family, port },
-        ip: ip,
-    }
 }
 
 // A byte that isn't there counts as nought.
 fn byte(v: &[u8], i: usize) -> u8
     ensures { result ≡ get_or v.now i 0 }
 {
-    if v.len() <= i {
-        return 0;
-    }
-    v[i]
+    v.get(i).copied().unwrap_or(0)
 }
 
 // The IP at the front of 16 bytes.
@@ -72,10 +41,10 @@ fn ip_of(v: &[u8]) -> [u8; 16]
 fn family_of(number: u8) -> Family
     ensures { result ≡ family_numbered number }
 {
-    if number == 1 {
-        return Family::Ipv4;
+    match number {
+        1 => Family::Ipv4,
+        _ => Family::Ipv6,
     }
-    Family::Ipv6
 }
 
 // Family, port and IP as they stand in the value.
@@ -101,24 +70,25 @@ fn error_code(v: &[u8]) -> ErrorCode
     }
 }
 
+// What a value without fault says, by its type's rule.
+fn by_rule(rule: Rule, value: &[u8], id: TransactionId) -> Value
+    ensures { result ≡ read_of rule value.now id }
+{
+    match rule {
+        Rule::Address => Value::Address(address(value)),
+        Rule::XorAddress => Value::Address(socket_addr_xor(address(value), id)),
+        Rule::Code => Value::Code(error_code(value)),
+        Rule::Text | Rule::Types | Rule::Plain => Value::Plain,
+    }
+}
+
 // What a value of a type says: its fields, or 11 to 14 just as the reader would give. A type that the list doesn't have is plain.
-pub fn value_of(kind: u16, value: &[u8], id: TransactionId) -> Typed
+pub fn value_of(kind: u16, value: &[u8], id: TransactionId) -> Result<Value, Refusal>
     ensures { typed_said result ≡ typed_said (typed_of rfc5389 kind value.now id) }
 {
     let entry = registry::entry_of(kind);
-    let number = registry::entry_fault(entry, value);
-    if number != 0 {
-        return without(Value::Refused { number });
-    }
-    let rule = registry::entry_rule(entry);
-    match rule {
-        Rule::Address => said_by(address(value)),
-        Rule::XorAddress => said_by(socket_addr_xor(address(value), id)),
-        Rule::Code => without(Value::Code(error_code(value))),
-        Rule::Text => without(Value::Plain),
-        Rule::Types => without(Value::Plain),
-        Rule::Plain => without(Value::Plain),
-    }
+    registry::entry_fault(entry, value)?;
+    Ok(by_rule(registry::entry_rule(entry), value, id))
 }
 
 // The part that goes with it: the phrase of an ERROR-CODE, the whole value where it is plain, and else an empty part.
@@ -126,16 +96,12 @@ pub fn part_of<'a>(kind: u16, value: &'a [u8]) -> &'a [u8]
     ensures { (result.now ≡ part_of rfc5389 kind value.now) × (result.ref_ptr ≡ (value.entry.ref_ptr.0, part_at rfc5389 kind value.now + value.entry.ref_ptr.1)) }
 {
     let entry = registry::entry_of(kind);
-    if registry::entry_fault(entry, value) != 0 {
+    if registry::entry_fault(entry, value).is_err() {
         return &value[0..0];
     }
-    let rule = registry::entry_rule(entry);
-    match rule {
-        Rule::Address => &value[0..0],
-        Rule::XorAddress => &value[0..0],
+    match registry::entry_rule(entry) {
+        Rule::Address | Rule::XorAddress => &value[0..0],
         Rule::Code => &value[4..],
-        Rule::Text => value,
-        Rule::Types => value,
-        Rule::Plain => value,
+        Rule::Text | Rule::Types | Rule::Plain => value,
     }
 }

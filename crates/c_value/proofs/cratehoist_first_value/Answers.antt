@@ -1,13 +1,13 @@
-use native.Mathlib.Omega.{arith}
+use Rattle.std.proofs.Common.{arith}
 use Rattle.read_first.specs.SaidLaws.{first_one}
 use Rattle.c_value.proofs.Sayings.{room, part, no_part}
 use Rattle.c_value.proofs.cratehoist_first_value.Goals as goal
 
-pub returns-in-Found : goal.returns-in-Found
-returns-in-Found c = search (part, first_one)
+pub returns-in-Some : goal.returns-in-Some
+returns-in-Some c = search (part, first_one)
 
-pub returns-in-Absent : goal.returns-in-Absent
-returns-in-Absent c = search (no_part, first_one)
+pub returns-in-None : goal.returns-in-None
+returns-in-None c = search (no_part, first_one)
 
 pub overflow_add-start : goal.overflow_add-start
-overflow_add-start c = omega (arith, room _ _ (first_one c.find-f.ensures) c.in-Found.is)
+overflow_add-start c = omega (arith, room _ _ (first_one c.find.ensures) c.in-Some.is)

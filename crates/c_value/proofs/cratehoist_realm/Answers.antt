@@ -1,13 +1,13 @@
-use native.Mathlib.Omega.{arith}
+use Rattle.std.proofs.Common.{arith}
 use Rattle.read_first.specs.SaidLaws.{first_one}
 use Rattle.c_value.proofs.Sayings.{room, realm, no_realm}
 use Rattle.c_value.proofs.cratehoist_realm.Goals as goal
 
-pub returns-in-Found : goal.returns-in-Found
-returns-in-Found c = search (realm, first_one)
+pub returns-in-Some : goal.returns-in-Some
+returns-in-Some c = search (realm, first_one)
 
-pub returns-in-Absent : goal.returns-in-Absent
-returns-in-Absent c = search (no_realm, first_one)
+pub returns-in-None : goal.returns-in-None
+returns-in-None c = search (no_realm, first_one)
 
-pub overflow_add-own : goal.overflow_add-own
-overflow_add-own c = omega (arith, room _ _ (first_one c.find-f.ensures) c.in-Found.is)
+pub overflow_add-result : goal.overflow_add-result
+overflow_add-result c = omega (arith, room _ _ (first_one c.find.ensures) c.in-Some.is)

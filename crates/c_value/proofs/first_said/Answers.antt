@@ -1,8 +1,8 @@
 use Rattle.c_value.proofs.Sayings.{one, no_one}
 use Rattle.c_value.proofs.first_said.Goals as goal
 
-pub returns-in-Found : goal.returns-in-Found
-returns-in-Found c = search (one)
+pub returns-in-Some : goal.returns-in-Some
+returns-in-Some c = search (one)
 
-pub returns-in-Absent : goal.returns-in-Absent
-returns-in-Absent c = search (no_one)
+pub returns-in-None : goal.returns-in-None
+returns-in-None c = search (no_one)
