@@ -12,7 +12,7 @@ use wire::refusal::Refusal;
 use wire::transaction_id::TransactionId;
 use wire::types::class_numbered;
 
-// The message's size from now on, where `number` is 0.
+// The message's size from now on, where `number` is 0: a struct of include/cratehoist.h, since C has no `Result`.
 #[repr(C)]
 #[derive(Clone, Copy)]
 pub struct Written {
