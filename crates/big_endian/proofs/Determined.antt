@@ -1,6 +1,5 @@
 -- The contract of each public call determines its answer.
-use Prim.Native.Nat.{ℕ}
-use mathlib.Core.List.{List}
+use Rattle.std.specs.Prelude.{ℕ, List}
 use Rattle.base.specs.DeterminedLaws.{by}
 use Rattle.base.specs.Determined.{Determines}
 use Rattle.big_endian.specs.Numbers.{be16, be32}

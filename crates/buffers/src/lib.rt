@@ -1,60 +1,35 @@
 // Bytes and big-endian numbers put into a lent buffer.
 #![tactic(auto)]
 
-ghost use Rattle.std.specs.Prelude.{◌≡◌, ◌+◌, ◌≤◌, length, leb};
-ghost use Rattle.base.specs.Laid.{laid};
+ghost use Rattle.std.specs.Prelude.{◌≡◌};
 ghost use Rattle.big_endian.specs.Numbers.{two, four};
 ghost use Rattle.buffers.specs.Put.{fits_at, put};
 
-// Is there room for n bytes at a place?
-fn fits(room: usize, at: usize, n: usize) -> bool
-    ensures { result ≡ leb (at + n) room }
-{
-    if room < at {
-        return false;
-    }
-    n <= room - at
-}
-
-fn lay(buf: &mut [u8], at: usize, src: &[u8])
-    requires { at + length src.now ≤ length buf.old }
-    ensures { buf.new ≡ laid buf.old at src.now }
-{
-    let mut j = 0;
-    while j < src.len() {
-        buf[at + j] = src[j];
-        j += 1;
-    }
-}
-
 // Copies src to a place of the buffer and answers true; where it doesn't fit, nothing changes and the answer is false.
+#[tactic(auto, unfolding(crate::specs::Put::put, crate::specs::Put::fits_at))]
 pub fn put_bytes(buf: &mut [u8], at: usize, src: &[u8]) -> bool
     ensures { (result ≡ fits_at buf.old at src.now) × (buf.new ≡ put buf.old at src.now) }
 {
-    if fits(buf.len(), at, src.len()) {
-        lay(buf, at, src);
-        return true;
+    // A write through what `get_mut` hands out isn't known of the buffer afterwards; one into a range by name is.
+    match at.checked_add(src.len()) {
+        Some(end) if end <= buf.len() => {
+            buf[at..end].copy_from_slice(src);
+            true
+        }
+        _ => false,
     }
-    false
 }
 
 // A 16-bit number put at a place, by the same rule.
 pub fn put_u16(buf: &mut [u8], at: usize, n: u16) -> bool
     ensures { (result ≡ fits_at buf.old at (two n)) × (buf.new ≡ put buf.old at (two n)) }
 {
-    let bytes = [(n / 256) as u8, (n % 256) as u8];
-    put_bytes(buf, at, &bytes)
+    put_bytes(buf, at, &u16::to_be_bytes(n))
 }
 
 // A 32-bit number put at a place, by the same rule.
 pub fn put_u32(buf: &mut [u8], at: usize, n: u32) -> bool
     ensures { (result ≡ fits_at buf.old at (four n)) × (buf.new ≡ put buf.old at (four n)) }
 {
-    let bytes = [
-        (n / 16777216) as u8,
-        (n / 65536 % 256) as u8,
-        (n / 256 % 256) as u8,
-        (n % 256) as u8,
-    ];
-    put_bytes(buf, at, &bytes)
+    put_bytes(buf, at, &u32::to_be_bytes(n))
 }

@@ -1,13 +1,14 @@
 -- What C is told of names.
-use Rattle.std.specs.Prelude.{ℕ, replicate, ltb}
+use Rattle.std.specs.Prelude.{ℕ, List, length, replicate, ltb}
 use Rattle.base.specs.Choice.{pick}
+use Rattle.buffers.specs.Put.{put}
 use Rattle.wire.specs.TypeNumber.{class_numbered}
 use Rattle.names.specs.Names.{class_name}
-use Rattle.names.specs.declared.Name as names
 use Rattle.c_names.specs.declared.Name.{Name}
 
-unfoldable pub told : names.Name → Name
-told n = record { text = n.text; size = n.size }
+-- at the front of 32 bytes, zeros behind
+unfoldable pub told : List ℕ → Name
+told s = record { text = put (replicate {A = ℕ} 32 0) 0 s; size = length s }
 
 -- a class above 3 is none, and has no name
 unfoldable pub class_told : ℕ → Name

@@ -10,19 +10,21 @@ use wire::types::class_numbered;
 
 // The first `size` bytes of the text; empty where there is no name.
 #[repr(C)]
-#[derive(Clone, Copy)]
+#[derive(Clone, Copy, Debug, PartialEq, Eq)]
 pub struct Name {
     pub text: [u8; 32],
     pub size: usize,
 }
 
-fn name_said(n: names::Name) -> Name
-    ensures { result ≡ told n }
+#[tactic(auto, unfolding(crate::specs::Name::told))]
+fn name_said(name: &str) -> Name
+    ensures { result ≡ told name.now }
 {
-    let text = n.text;
+    let mut text = [0u8; 32];
+    buffers::put_bytes(&mut text, 0, name.as_bytes());
     Name {
-        text: text,
-        size: n.size,
+        text,
+        size: name.len(),
     }
 }
 

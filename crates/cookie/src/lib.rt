@@ -12,21 +12,10 @@ pub const MAGIC_COOKIE: [u8; 4] = *b"\x21\x12\xA4\x42";
 pub fn cookie_at(d: &[u8], at: usize) -> bool
     ensures { result ≡ cookie_at d.now at }
 {
-    if d.len() < at {
-        return false;
+    match d.get(at..) {
+        Some(rest) => rest.starts_with(&MAGIC_COOKIE),
+        None => false,
     }
-    if d.len() - at < 4 {
-        return false;
-    }
-    let cookie = MAGIC_COOKIE;
-    let mut i = 0;
-    while i < 4 {
-        if d[at + i] != cookie[i] {
-            return false;
-        }
-        i += 1;
-    }
-    true
 }
 
 // Puts the cookie at a place of the buffer; where it doesn't fit, nothing changes and the answer is false.

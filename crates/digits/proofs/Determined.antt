@@ -1,12 +1,10 @@
 -- The contract of each public call determines its answer.
-use Prim.Native.Nat.{ℕ}
-use mathlib.Core.List.{List}
+use Rattle.std.specs.Prelude.{ℕ, List, Option}
 use Rattle.base.specs.DeterminedLaws.{by}
 use Rattle.base.specs.Determined.{Determines}
 use Rattle.digits.specs.Digit.{first_bad}
 use Rattle.digits.specs.Number.{number_of}
 use Rattle.digits.specs.SaidLaws.{number_one}
-use Rattle.digits.specs.declared.Number.{Number}
 use Rattle.digits.proofs.first_bad.Kinds as first_bad_kinds
 use Rattle.digits.proofs.first_bad.Reads as first_bad_reads
 use Rattle.digits.proofs.number_of.Kinds as number_of_lem_kinds
@@ -16,6 +14,6 @@ pub determined-first_bad : Determines first_bad_kinds.ps first_bad_kinds.r {I = 
     (λ κs a. a.0.now) (λ κs z e. z)
 determined-first_bad = by first_bad_kinds.ps first_bad_kinds.r first_bad_reads.Asked first_bad_reads.Learnt _ _ first_bad (λ κs a y d i q. q)
 
-pub determined-number_of : Determines number_of_lem_kinds.ps number_of_lem_kinds.r {I = List ℕ} {A = Number} number_of_reads.Asked number_of_reads.Learnt
+pub determined-number_of : Determines number_of_lem_kinds.ps number_of_lem_kinds.r {I = List ℕ} {A = Option ℕ} number_of_reads.Asked number_of_reads.Learnt
     (λ κs a. a.0.now) (λ κs z e. z)
 determined-number_of = by number_of_lem_kinds.ps number_of_lem_kinds.r number_of_reads.Asked number_of_reads.Learnt _ _ number_of (λ κs a y d i q. number_one q)

@@ -1,6 +1,5 @@
 -- The contract of each public call determines its answer.
-use Prim.Native.Nat.{ℕ}
-use mathlib.Core.List.{List}
+use Rattle.std.specs.Prelude.{ℕ, Bool, List}
 use Rattle.base.specs.DeterminedLaws.{by}
 use Rattle.base.specs.Determined.{Determines}
 use Rattle.display.specs.declared.Span.{Span}
@@ -10,7 +9,6 @@ use Rattle.display.proofs.blame.Kinds as blame_kinds
 use Rattle.display.proofs.blame.Reads as blame_reads
 use Rattle.display.proofs.longest_zeros.Kinds as longest_zeros_kinds
 use Rattle.display.proofs.longest_zeros.Reads as longest_zeros_reads
-use mathlib.Core.Bool.{Bool}
 use Rattle.display.specs.Escape.{escaped}
 use Rattle.display.proofs.escape.is_escaped.Kinds as is_escaped_kinds
 use Rattle.display.proofs.escape.is_escaped.Reads as is_escaped_reads

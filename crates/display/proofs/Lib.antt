@@ -1,4 +1,2 @@
-mod Escaping
-mod Blaming
 mod Runs
 mod Determined

@@ -1,16 +1,17 @@
 // What a person is shown: the bytes that a number is about, and the zeros that an IPv6 address leaves out.
-#![tactic(auto)]
+#![tactic(auto, using(std::proofs::lemmas::Bool::Decides::nat_tests), unfolding(crate::specs::Blame::within, crate::specs::Blame::in_attribute, crate::specs::Blame::blamed, crate::specs::Zeros::better_of))]
 
-ghost use Rattle.std.specs.Prelude.{◌≡◌, ◌<◌, length, drop};
+ghost use Rattle.std.specs.Prelude.{◌≡◌, ◌<◌, ◌==◌, length};
+ghost use Rattle.std.specs.List.{take_while};
 ghost use Rattle.display.specs.Blame.{within, in_attribute, blamed};
-ghost use Rattle.display.specs.Zeros.{leading, better_of, longest};
+ghost use Rattle.display.specs.Zeros.{better_of, longest};
 
 use big_endian::u16_at;
 
 pub mod escape;
 
 // So many places from one on.
-#[derive(Clone, Copy)]
+#[derive(Clone, Copy, Debug, PartialEq, Eq)]
 pub struct Span {
     pub at: usize,
     pub size: usize,
@@ -20,13 +21,11 @@ pub struct Span {
 fn part(all: usize, at: usize, size: usize) -> Span
     ensures { result ≡ within all at size }
 {
-    if all <= at {
-        return Span { at: all, size: 0 };
+    let at = at.min(all);
+    Span {
+        at,
+        size: size.min(all - at),
     }
-    if all - at < size {
-        return Span { at, size: all - at };
-    }
-    Span { at, size }
 }
 
 fn in_attribute(d: &[u8], number: u8, place: usize) -> Span
@@ -54,39 +53,26 @@ pub fn blame(d: &[u8], number: u8, place: usize) -> Span
         2 => part(all, 0, 1),
         3 => part(all, 4, 4),
         4 => part(all, 2, 2),
-        _ => {
-            if all <= place {
-                return part(all, place, 0);
-            }
-            in_attribute(d, number, place)
-        }
+        _ if all <= place => part(all, place, 0),
+        _ => in_attribute(d, number, place),
     }
 }
 
-// How many zeros stand from a place on.
-fn zeros_from(groups: &[u16], from: usize) -> usize
-    requires { from < length groups.now }
-    ensures { result ≡ leading (drop from groups.now) }
+// How many zeros stand in front.
+fn zeros(groups: &[u16]) -> usize
+    ensures { result ≡ length (take_while (λ g. g == 0) groups.now) }
 {
-    let mut n = 0;
-    let mut i = from;
-    while i < groups.len() {
-        if groups[i] != 0 {
-            return n;
-        }
-        n += 1;
-        i += 1;
-    }
-    n
+    groups.iter().take_while(|g| **g == 0).count()
 }
 
 fn better(best: Span, at: usize, size: usize) -> Span
     ensures { result ≡ better_of best at size }
 {
     if best.size < size {
-        return Span { at, size };
+        Span { at, size }
+    } else {
+        best
     }
-    best
 }
 
 // The first of the longest runs of two or more zeros; of no places where there is none.
@@ -94,11 +80,9 @@ pub fn longest_zeros(groups: &[u16]) -> Span
     ensures { result ≡ longest groups.now }
 {
     let mut best = Span { at: 0, size: 0 };
-    let mut i = 0;
-    while i < groups.len() {
-        let n = zeros_from(groups, i);
+    for i in 0..groups.len() {
+        let n = zeros(&groups[i..]);
         best = better(best, i, n);
-        i += 1;
     }
     if best.size < 2 {
         return Span { at: 0, size: 0 };

@@ -1,4 +1,3 @@
-mod Digits
 mod Places
 mod Laying
 mod Determined

@@ -1,16 +1,10 @@
 -- Texts of which all is hex, and the cases of `unhex`.
-use Prim.Native.Nat.{ℕ, zero, suc, ◌/◌, ◌%◌, ◌≤◌, ◌<◌}
-use mathlib.Core.Bool.{Bool, true, false}
-use mathlib.Core.List.{List, [], ◌∷◌}
-use mathlib.Core.Path.{◌≡◌, refl, sym}
-use native.Mathlib.Omega.{arith}
-use lib.Dec.{ltb}
-use lib.ListN.{length, get_or}
-use borrow.Author.Tests.{lt-ltb, le-ltb, eq-eqb, ne_eqb, ltb-true}
+use Rattle.std.specs.Prelude.{ℕ, zero, suc, ◌/◌, ◌%◌, ◌≤◌, ◌<◌, Bool, true, false, List, [], ◌∷◌, Ok, Err, ◌≡◌, refl, ltb, length, get_or}
+use Rattle.std.proofs.Common.{sym, arith, lt-ltb, le-ltb, eq-eqb, ne_eqb, ltb-true}
 use Rattle.base.specs.Choice.{pick}
 use Rattle.digits.specs.Digit.{digit_of, first_bad}
 use Rattle.hex_text.specs.Hex.{hex_of, unhexed, read}
-use Rattle.hex_text.specs.declared.Hex.TheVariants.{Bytes, Bad, Odd}
+use Rattle.hex_text.specs.declared.HexFault.TheVariants.{Bad, Odd}
 
 at_most : (s : List ℕ) → first_bad s ≤ length s
 unfolding first_bad
@@ -35,7 +29,7 @@ each (b ∷ s) k e h = go (ltb (digit_of b) 16) refl k h e (λ j q l. each s j q
 
 -- what `unhex` answers, and the buffer then
 module _ (l s : List ℕ) {p : ℕ} (e : p ≡ first_bad s) where
-  pub bad_told : p < length s → Bad p ≡ hex_of s
+  pub bad_told : p < length s → Err (Bad p) ≡ hex_of s
   unfolding hex_of
   bad_told h = rw e (let k : first_bad s < length s = omega arith in simp (lt-ltb _ _ k))
 
@@ -47,7 +41,7 @@ module _ (l s : List ℕ) {p : ℕ} (e : p ≡ first_bad s) where
     pub all : first_bad s ≡ length s
     all = omega (arith, at_most s)
 
-    pub odd_told : (length s % 2 ≡ 0 → ⊥) → Odd ≡ hex_of s
+    pub odd_told : (length s % 2 ≡ 0 → ⊥) → Err Odd ≡ hex_of s
     unfolding hex_of
     odd_told k = let j : length s ≤ first_bad s = omega arith in simp (le-ltb _ _ j, ne_eqb _ _ k)
 
@@ -55,7 +49,7 @@ module _ (l s : List ℕ) {p : ℕ} (e : p ≡ first_bad s) where
     unfolding read
     odd_kept k = rw (sym (odd_told k))
 
-    pub bytes_told : length s % 2 ≡ 0 → Bytes (length s / 2) ≡ hex_of s
+    pub bytes_told : length s % 2 ≡ 0 → Ok (length s / 2) ≡ hex_of s
     unfolding hex_of
     bytes_told k = let j : length s ≤ first_bad s = omega arith in simp (le-ltb _ _ j, eq-eqb _ _ k)
 

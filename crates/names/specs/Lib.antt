@@ -1,4 +1,3 @@
 pub mod Lists
 pub mod Ascii
 pub mod Names
-pub mod TableLaws

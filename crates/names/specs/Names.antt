@@ -1,13 +1,11 @@
 -- What a person reads: the names of attributes (RFC 5389 section 18.2), of error codes (section 15.6), of the numbers (docs/NUMBERS.md), of
 -- classes and methods; a table for each.
-use Rattle.std.specs.Prelude.{ℕ, List, [], ◌∷◌, eqb, length, replicate}
+use Rattle.std.specs.Prelude.{ℕ, List, [], ◌∷◌, eqb}
 use Prim.Native.String.{String}
 use Rattle.base.specs.Choice.{pick}
-use Rattle.buffers.specs.Put.{put}
 use Rattle.wire.specs.TypeNumber.{class_number}
 use Rattle.wire.specs.declared.types.MessageClass.{MessageClass}
 use Rattle.names.specs.Ascii.{ascii}
-use Rattle.names.specs.declared.Name.{Name}
 
 -- a number and its name
 pub record Row : Type 0 where
@@ -86,21 +84,17 @@ unfoldable pub find : List Row → ℕ → List ℕ
 find [] n = []
 find (r ∷ rs) n = pick (eqb r.number n) r.name (find rs n)
 
--- at the front of 32 bytes, zeros behind
-unfoldable pub shown : List ℕ → Name
-shown s = record { text = put (replicate {A = ℕ} 32 0) 0 s; size = length s }
+unfoldable pub attribute_name : ℕ → List ℕ
+attribute_name n = find attributes n
 
-unfoldable pub attribute_name : ℕ → Name
-attribute_name n = shown (find attributes n)
+unfoldable pub code_name : ℕ → List ℕ
+code_name n = find codes n
 
-unfoldable pub code_name : ℕ → Name
-code_name n = shown (find codes n)
+unfoldable pub number_name : ℕ → List ℕ
+number_name n = find numbers n
 
-unfoldable pub number_name : ℕ → Name
-number_name n = shown (find numbers n)
+unfoldable pub class_name : MessageClass → List ℕ
+class_name c = find classes (class_number c)
 
-unfoldable pub class_name : MessageClass → Name
-class_name c = shown (find classes (class_number c))
-
-unfoldable pub method_name : ℕ → Name
-method_name n = shown (find methods n)
+unfoldable pub method_name : ℕ → List ℕ
+method_name n = find methods n

@@ -1,20 +1,15 @@
 -- The loop of `xor_bytes`: i bytes are done.
-use Prim.Native.Nat.{ℕ, zero, suc, ◌+◌, ◌≤◌, ◌<◌}
-use mathlib.Core.List.{List, [], ◌∷◌, ◌++◌, append-nil}
-use mathlib.Core.Path.{◌≡◌, refl, sym, ap, ap₂, ◌∙◌}
-use native.Mathlib.Omega.{arith}
-use native.Mathlib.Numerals.{add-one}
-use lib.ListN.{length, get_or, set, take, drop, length-drop, drop_of_length-le}
-use lib.Seq.{take_all}
-use lib.Bits.{bit_xor}
+use Rattle.std.specs.Prelude.{ℕ, zero, suc, ◌+◌, ◌≤◌, ◌<◌, min, List, [], ◌∷◌, ◌++◌, ◌⊎◌, ◌≡◌, refl, length, get_or, set, take, drop}
+use Rattle.std.proofs.Common.{sym, ap, ap₂, ◌∙◌, arith, add-one, length-drop, drop_of_length-le, ⊎_elim}
+use Rattle.std.specs.Int.Bits.{bit_xor}
+use Rattle.std.proofs.Math.Seq.{take_all}
+use mathlib.Core.List.{append-nil}
 use borrow.Rule.Slice.PartMut.{mid_of, post_of, put_mid}
 use Rattle.cookie.specs.Cookie.{cookie}
-use Rattle.wire.specs.declared.transaction_id.TransactionId.{TransactionId}
-use Rattle.net.specs.Net.{ip_size, xored, addr_xor}
+use Rattle.net.specs.Net.{ip_size, xored}
 use Rattle.net.specs.NetLaws.{length-xored, xored_nil, xored_behind, xored-append}
 use Rattle.net.specs.declared.Family.{Family}
-use Rattle.net.specs.declared.Family.TheVariants.{Ipv4, Ipv6}
-use Rattle.net.specs.declared.SocketAddr.{SocketAddr}
+use Rattle.net.specs.declared.Family.TheVariants.{Ipv6}
 
 -- one byte more is xored
 next : (s k : List ℕ) (i : ℕ) → i < length k
@@ -25,28 +20,17 @@ next (a ∷ s) [] i h = absurd (omega arith)
 next (a ∷ s) (b ∷ k) zero h = ap (λ (r : List ℕ). bit_xor a b ∷ r) (sym (xored_nil s))
 next (a ∷ s) (b ∷ k) (suc i) h = ap (λ (r : List ℕ). bit_xor a b ∷ r) (next s k i (omega arith))
 
-pub record Xoring (l k m : List ℕ) (i : ℕ) : Type 0 where
-  pub size : length m ≡ length l
-  pub so_far : m ≡ xored l (take i k)
+module _ (l k : List ℕ) {m : List ℕ} {i : ℕ} (e : m ≡ xored l (take i k)) where
+  pub turn : i < length k → set m i (bit_xor (get_or m i 0) (get_or k i 0)) ≡ xored l (take (i + 1) k)
+  turn h = rw (add-one, e) (next l k i h)
 
-pub start : (l k : List ℕ) → Xoring l k l 0
-start l k = record { size = refl; so_far = sym (xored_nil l) }
+  pub done : min (length l) (length k) ≤ i → m ≡ xored l k
+  done h = ⊎_elim (λ p. e ∙ xored_behind l k i p) (λ p. e ∙ ap (xored l) (take_all i k p)) (cases h)
+    where
+      cases : min (length l) (length k) ≤ i → (length l ≤ i) ⊎ (length k ≤ i)
+      cases h = grind arith
 
-pub turn : {l k m : List ℕ} {i : ℕ} → Xoring l k m i → i < length k → Xoring l k (set m i (bit_xor (get_or m i 0) (get_or k i 0))) (i + 1)
-turn {l} {k} {m} {i} g h =
-    let e : set m i (bit_xor (get_or m i 0) (get_or k i 0)) ≡ xored l (take (suc i) k) = rw g.so_far (next l k i h) in
-    record { size = ap length e ∙ length-xored l (take (suc i) k); so_far = rw add-one e }
-
-pub done_mask : {l k m : List ℕ} {i : ℕ} → Xoring l k m i → length k ≤ i → m ≡ xored l k
-done_mask {l} {k} {m} {i} g h = g.so_far ∙ ap (xored l) (take_all i k h)
-
-pub done : {l k m : List ℕ} {i : ℕ} → Xoring l k m i → length m ≤ i → m ≡ xored l k
-done {l} {k} {m} {i} g h = g.so_far ∙ xored_behind l k i (omega (arith, g.size))
-
--- an IP of each family
-pub ip_4 : (s k : List ℕ) {f : Family} {m : List ℕ} → f ≡ Ipv4 → m ≡ xored s cookie → m ≡ xored s (take (ip_size f) (cookie ++ k))
-ip_4 s k e p = rw e p
-
+-- an IP of 16 bytes: the cookie's four, and the ID's behind them
 pub ip_16 : (s k : List ℕ) {f : Family} {m n : List ℕ} → length s ≡ 16 → length k ≡ 12 → f ≡ Ipv6
     → m ≡ xored s cookie → n ≡ xored (mid_of 4 12 m) k → put_mid 4 12 m n ≡ xored s (take (ip_size f) (cookie ++ k))
 ip_16 s k {f} {m} {n} a b e p q =
@@ -56,8 +40,3 @@ ip_16 s k {f} {m} {n} a b e p q =
     let both : n ++ post_of 4 12 m ≡ xored (drop 4 m) k = ap₂ {C = List ℕ} (λ u v. u ++ v) (q ∙ ap (λ (x : List ℕ). xored x k) mid) post ∙ append-nil (xored (drop 4 m) k) in
     let all : take 16 (cookie ++ k) ≡ cookie ++ k = take_all 16 (cookie ++ k) (omega arith) in
     rw (e, all) (ap (λ (x : List ℕ). take 4 m ++ x) both ∙ rw p (xored-append s cookie k))
-
-pub form : (a : SocketAddr) (id : TransactionId) {i : List ℕ} → i ≡ xored a.ip (take (ip_size a.family) (cookie ++ id.bytes))
-    → record { family = a.family; port = bit_xor a.port 0x2112; ip = i } ≡ addr_xor a id
-unfolding addr_xor
-form a id e = rw e

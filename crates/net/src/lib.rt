@@ -7,14 +7,14 @@ ghost use Rattle.net.specs.Net.{family_number, ip_size, xored, addr_xor};
 
 use wire::transaction_id::TransactionId;
 
-#[derive(Clone, Copy)]
+#[derive(Clone, Copy, Debug, PartialEq, Eq)]
 pub enum Family {
     Ipv4,
     Ipv6,
 }
 
 // An IP of 4 bytes stands in the first four.
-#[derive(Clone, Copy)]
+#[derive(Clone, Copy, Debug, PartialEq, Eq)]
 pub struct SocketAddr {
     pub family: Family,
     pub port: u16,
@@ -46,13 +46,9 @@ impl Family {
 pub fn xor_bytes(buf: &mut [u8], mask: &[u8])
     ensures { buf.new ≡ xored buf.old mask.now }
 {
-    let mut i = 0;
-    while i < buf.len() {
-        if mask.len() <= i {
-            return;
-        }
-        buf[i] = buf[i] ^ mask[i];
-        i += 1;
+    // What a chain over `iter_mut` wrote isn't known of the slice afterwards, so the places are counted.
+    for i in 0..buf.len().min(mask.len()) {
+        buf[i] ^= mask[i];
     }
 }
 
@@ -61,25 +57,20 @@ fn xor_ip(family: Family, ip: [u8; 16], id: [u8; 12]) -> [u8; 16]
 {
     let mut out = ip;
     xor_bytes(&mut out, &cookie::MAGIC_COOKIE);
-    match family {
-        Family::Ipv4 => out,
-        Family::Ipv6 => {
-            xor_bytes(&mut out[4..], &id);
-            out
-        }
+    if let Family::Ipv6 = family {
+        xor_bytes(&mut out[4..], &id);
     }
+    out
 }
 
 // The XOR form of an address, and of an XOR form the address.
+#[tactic(auto, unfolding(crate::specs::Net::addr_xor))]
 pub fn socket_addr_xor(addr: SocketAddr, transaction_id: TransactionId) -> SocketAddr
     ensures { result ≡ addr_xor addr transaction_id }
 {
-    let family = addr.family;
-    let ip = addr.ip;
-    let id = transaction_id.bytes;
     SocketAddr {
-        family: family,
+        family: addr.family,
         port: addr.port ^ 0x2112,
-        ip: xor_ip(family, ip, id),
+        ip: xor_ip(addr.family, addr.ip, transaction_id.bytes),
     }
 }

@@ -1,8 +1,9 @@
 -- An attribute appended is read behind what was there: class, method, ID and the earlier attributes as before, the new one as given. This shuts
 -- out a writer that changes nothing or spoils what stood there, and a walk that reads one attribute and then says end.
+use Rattle.write_plan.specs.declared.Room.{Room}
 use Prim.Native.Nat.{ℕ, ◌+◌, ◌≤◌, ◌<◌}
 use mathlib.Core.List.{List, [], ◌∷◌, ◌++◌}
-use Rattle.std.specs.Prelude.{◌≡◌}
+use Rattle.std.specs.Prelude.{◌≡◌, Ok}
 use Rattle.std.proofs.Math.Path.{sym, ap, ap₂, subst}
 use Rattle.std.proofs.Common.{◌∙◌, arith, length-append, length-take-le}
 use Rattle.std.proofs.Math.ListN.{length, take, drop, length-drop, take-append-drop}
@@ -18,7 +19,6 @@ use Rattle.attribute.specs.Attribute as one
 use Rattle.attribute.specs.Good.{Good}
 use Rattle.attribute.specs.Visits.{Visits, placed}
 use Rattle.attribute.proofs.CoverLaws.{placed_one, visits, visits_one}
-use Rattle.write_begin.specs.declared.Written.TheVariants.{Total}
 use Rattle.write_plan.specs.Plan.{size_of}
 use Rattle.write_plan.proofs.PlanLaws.{Going, message}
 use Rattle.write_plan.proofs.PlanLaws as plan
@@ -68,11 +68,11 @@ module _ (d : List ℕ) (h : Bytes d) (mf : plan.Message d) where
       in
       omega (arith, x, ap length held_bytes, D-length)
 
-module _ (d : List ℕ) (f : ℕ) (a : Attr) {t : ℕ} (h : Bytes d) (k : a.kind < 65536) (e : answer d f a ≡ Total t) where
-  plan_facts : (at : ℕ) × (body : ℕ) × Going d f (length a.value) (length a.pad) at body t
+module _ (d : List ℕ) (f : ℕ) (a : Attr) {t : ℕ} (h : Bytes d) (k : a.kind < 65536) (e : answer d f a ≡ Ok t) where
+  plan_facts : (r : Room) × (r.total ≡ t) × Going d f (length a.value) (length a.pad) r
   plan_facts = total_goes d f a e
 
-  g : Going d f (length a.value) (length a.pad) plan_facts.0 plan_facts.1 t
+  g : Going d f (length a.value) (length a.pad) plan_facts.0
   g = plan_facts.2
 
   there : plan.Message d
@@ -98,7 +98,7 @@ module _ (d : List ℕ) (f : ℕ) (a : Attr) {t : ℕ} (h : Bytes d) (k : a.kind
       in
       let m : length (all_bytes (X ++ (a ∷ []))) ≡ length (all_bytes X) + length (one.bytes_of a) = all_one X a in
       let z : length (front (T d h there) i (X ++ (a ∷ []))) ≡ t =
-      simp (length-append, head_length (T d h there) (length (all_bytes (X ++ (a ∷ [])))) i [] (held_shaped d h there).id) (omega (arith, g))
+      simp (length-append, head_length (T d h there) (length (all_bytes (X ++ (a ∷ [])))) i [] (held_shaped d h there).id) (omega (arith, g, plan_facts.1))
       in
       ap₂ (λ (y : ℕ) (u : List ℕ). take t (appended u y a)) g.right split ∙ ap (take t) s
       ∙ take_at (front (T d h there) i (X ++ (a ∷ []))) (drop (length (one.bytes_of a)) r) t z

@@ -1,7 +1,7 @@
 -- A buffer that starts with a message: what the checks find there, and what one more attribute makes of it.
 use Prim.Native.Nat.{ℕ, ◌+◌, ◌*◌, ◌/◌, ◌%◌, ◌≤◌, ◌<◌}
 use mathlib.Core.List.{List, [], ◌∷◌, ◌++◌, append_assoc, append-nil}
-use Rattle.std.specs.Prelude.{Bool, ◌≡◌, take}
+use Rattle.std.specs.Prelude.{Bool, ◌≡◌, take, Ok}
 use Rattle.std.proofs.Math.Path.{refl, sym, ap, ap₂}
 use Rattle.std.proofs.Common.{◌∙◌, le-ltb, take_at, drop_at}
 use native.Mathlib.Omega.{arith}
@@ -19,10 +19,8 @@ use Rattle.attribute.specs.Attribute.{padded, Attr, rest, parse, bytes_of, all_b
 use Rattle.attribute.specs.Good.{Good, Goods}
 use Rattle.attribute.proofs.RoundTripLaws.{decode_all_bytes}
 use Rattle.write_begin.specs.Begin.{head_bytes}
-use Rattle.write_begin.specs.declared.Written.TheVariants.{Total}
 use Rattle.write_plan.specs.Plan.{size_of, message_fault, body_with}
 use Rattle.write_plan.proofs.PlanLaws.{message_is, goes, plan_is}
-use Rattle.write_plan.specs.declared.Plan.TheVariants.{Go}
 use Rattle.write_raw.specs.Append.{answered, written, plan_for, answer, appended}
 
 -- the header of a buffer
@@ -114,7 +112,7 @@ module _ (t : ℕ) (id : List ℕ) (xs : List Attr) (r : List ℕ) (ht : t < 163
       })
 
   module _ (a : Attr) (ga : Good a) (few : n + length (bytes_of a) ≤ 65532) (room : length (bytes_of a) ≤ length r) where
-    step_plan : plan_for d 0 a ≡ Go (20 + n) (n + length (bytes_of a)) (20 + (n + length (bytes_of a)))
+    step_plan : plan_for d 0 a ≡ Ok (record { at = 20 + n; body = n + length (bytes_of a); total = 20 + (n + length (bytes_of a)) })
     unfolding plan_for
     step_plan =
         let b : body_with d (length a.value) ≡ n + length (bytes_of a) = omega (arith, body_is, attr_length a ga) in
@@ -123,9 +121,9 @@ module _ (t : ℕ) (id : List ℕ) (xs : List Attr) (r : List ℕ) (ht : t < 163
         ∙ rw (b, size_is)
 
     -- one attribute more
-    pub step_answer : answer d 0 a ≡ Total (20 + length (all_bytes (xs ++ (a ∷ []))))
+    pub step_answer : answer d 0 a ≡ Ok (20 + length (all_bytes (xs ++ (a ∷ []))))
     unfolding answer answered
-    step_answer = rw step_plan (ap (λ (k : ℕ). Total (20 + k)) (sym (all_one xs a)))
+    step_answer = rw step_plan (ap (λ (k : ℕ). Ok (20 + k)) (sym (all_one xs a)))
 
     pub step_buffer : appended d 0 a ≡ front t id (xs ++ (a ∷ [])) ++ drop (length (bytes_of a)) r
     unfolding appended written front

@@ -1,5 +1,5 @@
 -- A message and its bytes (RFC 5389 section 6; docs/SCOPE.md, "The datagram", "Writing again what was read").
-use Rattle.std.specs.Prelude.{ℕ, ◌≤◌, ◌<◌, List, [], ◌∷◌, ◌++◌, ◌≡◌, length, take, drop}
+use Rattle.std.specs.Prelude.{ℕ, ◌≤◌, ◌<◌, List, [], ◌∷◌, ◌++◌, ◌≡◌, length, take, drop, Result, Ok}
 use Rattle.base.specs.Bytes.{Bytes}
 use Rattle.big_endian.specs.Numbers.{be16}
 use Rattle.wire.specs.TypeNumber.{type_of, class_of, method_of, class_number, class_numbered}
@@ -13,11 +13,10 @@ use Rattle.attribute.specs.Scan.{Pass}
 use Rattle.registry.specs.declared.Row.{Row}
 use Rattle.read_fingerprints.specs.Fingerprints.{print_faults}
 use Rattle.read_message.specs.Reading.{value_faults}
-use Rattle.read_message.specs.declared.Answer.TheVariants.{Whole}
 use Rattle.read_message.specs.declared.Reading.{Reading}
 use Rattle.write_plan.specs.Plan.{size_of}
 use Rattle.write_begin.specs.Begin.{head_bytes, begun, beginning}
-use Rattle.write_begin.specs.declared.Written.{Written}
+use Rattle.wire.specs.declared.refusal.Refusal.{Refusal}
 use Rattle.write_raw.specs.Append.{answer, appended}
 
 pub record Message : Type 0 where
@@ -68,14 +67,14 @@ abbrev pub write_from : List ℕ → List Attr → List ℕ
 write_from d [] = d
 write_from d (a ∷ xs) = write_from (appended d 0 a) xs
 
-abbrev pub said_from : Written → List ℕ → List Attr → Written
+abbrev pub said_from : Result ℕ Refusal → List ℕ → List Attr → Result ℕ Refusal
 said_from w d [] = w
 said_from w d (a ∷ xs) = said_from (answer d 0 a) (appended d 0 a) xs
 
 abbrev pub write : List ℕ → Message → List ℕ
 write d m = write_from (beginning d m.class m.method m.id) m.attributes
 
-abbrev pub said : List ℕ → Message → Written
+abbrev pub said : List ℕ → Message → Result ℕ Refusal
 said d m = said_from (begun d m.method) (beginning d m.class m.method m.id) m.attributes
 
 -- a message with one attribute more
@@ -93,5 +92,5 @@ pub record Right (rows : List Row) (m : Message) : Type 0 where
   pub prints : Pass (print_faults (bytes_of m)) 20 m.attributes
 
 -- what its reading is: whole, with its class, method, ID and number of attributes
-abbrev pub whole_with : Message → Reading
-whole_with m = record { answer = Whole m.class m.method (length m.attributes); id = m.id }
+abbrev pub whole_with : Message → Result Reading Refusal
+whole_with m = Ok (record { class = m.class; method = m.method; id = m.id; attributes = Ok (length m.attributes) })

@@ -1,7 +1,8 @@
 -- A FINGERPRINT appended to a whole message leaves it whole, with one attribute more; a MESSAGE-INTEGRITY appended is the digest of what stands before it.
+use Rattle.write_plan.specs.declared.Room.{Room}
 use Prim.Native.Nat.{ℕ, ◌+◌, ◌-◌, ◌≤◌, ◌<◌}
 use mathlib.Core.List.{List, [], ◌∷◌, ◌++◌, append-nil}
-use Rattle.std.specs.Prelude.{Bool, ◌≡◌, take}
+use Rattle.std.specs.Prelude.{Bool, ◌≡◌, take, Ok}
 use Rattle.std.proofs.Math.Path.{refl, sym, ap}
 use Rattle.std.proofs.Common.{◌∙◌, subst, add-zero, take-take}
 use native.Mathlib.Omega.{arith}
@@ -29,13 +30,11 @@ use Rattle.registry.specs.Rows.{rfc5389, look}
 use Rattle.registry.specs.declared.Row.{Row}
 use Rattle.registry.specs.Fault.{rule_fault, entry_fault, fault}
 use Rattle.read_fingerprints.specs.Fingerprints.{print_fault, print_faults}
-use Rattle.read_message.specs.Reading.{value_faults, reading_of}
+use Rattle.read_message.specs.Reading.{value_faults, reading_of, answer_of}
 use Rattle.read_message.specs.Whole.{attributes}
 use Rattle.read_message.proofs.WholeLaws.{Parts, parts, parts_told, told_whole}
-use Rattle.read_message.specs.declared.Answer.TheVariants.{Whole}
-use Rattle.read_message.specs.declared.Reading.{Reading}
+use Rattle.read_message.specs.Reading.{Whole}
 use Rattle.write_begin.specs.Begin.{head_bytes}
-use Rattle.write_begin.specs.declared.Written.TheVariants.{Total}
 use Rattle.write_plan.specs.Plan.{size_of}
 use Rattle.write_plan.proofs.PlanLaws.{Going, message}
 use Rattle.write_plan.proofs.PlanLaws as plan
@@ -94,8 +93,8 @@ module _ (d : List ℕ) (h : Bytes d) (there : plan.Message d) (a : Attr) where
       ∙ ap (λ (x : List ℕ). with_length x v) (ap (take (size_of d)) (held_bytes d h there) ∙ take-take (size_of d) (size_of d) d (omega arith))
 
 -- an attribute appended that passes by its value and as a FINGERPRINT leaves a whole message whole
-module _ (d : List ℕ) {t : ℕ} (h : Bytes d) (a : Attr) (small : a.kind < 65536) (e : answer d 0 a ≡ Total t) where
-  going : (at : ℕ) × (body : ℕ) × Going d 0 (length a.value) (length a.pad) at body t
+module _ (d : List ℕ) {t : ℕ} (h : Bytes d) (a : Attr) (small : a.kind < 65536) (e : answer d 0 a ≡ Ok t) where
+  going : (r : Room) × (r.total ≡ t) × Going d 0 (length a.value) (length a.pad) r
   going = total_goes d 0 a e
 
   there : plan.Message d
@@ -135,10 +134,10 @@ module _ (d : List ℕ) {t : ℕ} (h : Bytes d) (a : Attr) (small : a.kind < 655
       pass_one f g a (size_of d) agree last 20 M.attributes (omega arith) (size d h there a) (subst (λ (xs : List Attr). Pass f 20 xs) before s)
 
   pub kept : (rows : List Row) {c : MessageClass} {m : Method} {n : ℕ} → value_faults rows (size_of d) a ≡ 0 → print_faults (bytes_of N) (size_of d) a ≡ 0
-      → (reading_of rows (take (size_of d) d)).answer ≡ Whole c m n → (reading_of rows (take t (appended d 0 a))).answer ≡ Whole c m (n + 1)
+      → answer_of (reading_of rows (take (size_of d) d)) ≡ Whole c m n → answer_of (reading_of rows (take t (appended d 0 a))) ≡ Whole c m (n + 1)
   unfolding message_of
   kept rows {c} {m} {n} value-last print-last w =
-      let e' : (reading_of rows (bytes_of M)).answer ≡ Whole c m n = ap (λ (x : List ℕ). (reading_of rows x).answer) (held_bytes d h there) ∙ w in
+      let e' : answer_of (reading_of rows (bytes_of M)) ≡ Whole c m n = ap (λ (x : List ℕ). answer_of (reading_of rows x)) (held_bytes d h there) ∙ w in
       let p : Parts rows (bytes_of M) = parts rows (bytes_of M) (told_whole rows (bytes_of M) e') in
       let r : Right rows N =
       record {
@@ -147,17 +146,17 @@ module _ (d : List ℕ) {t : ℕ} (h : Bytes d) (a : Attr) (small : a.kind < 655
         prints = passes (print_faults (bytes_of M)) (print_faults (bytes_of N)) print_agree print-last p.prints;
       }
       in
-      let x : (whole_with (message_of (bytes_of M))).answer ≡ Whole c m n = sym (ap (λ (y : Reading). y.answer) (parts_told rows (bytes_of M) p)) ∙ e' in
-      let y : (whole_with M).answer ≡ Whole c m n = ap (λ (z : Message). (whole_with z).answer) (sym (read_written M w_m)) ∙ x in
+      let x : answer_of (whole_with (message_of (bytes_of M))) ≡ Whole c m n = sym (ap answer_of (parts_told rows (bytes_of M) p)) ∙ e' in
+      let y : answer_of (whole_with M) ≡ Whole c m n = ap (λ (z : Message). answer_of (whole_with z)) (sym (read_written M w_m)) ∙ x in
       let more : length (M.attributes ++ (a ∷ [])) ≡ length M.attributes + 1 = length-append M.attributes (a ∷ []) in
       let many : length M.attributes ≡ n = cc in
       let class : M.class ≡ c = cc in
       let method : M.method ≡ m = cc in
       rw (appended_bytes d 0 a h small e)
-      (ap (λ (y : Reading). y.answer) (right_read rows N r) ∙ rw (more, many, class, method))
+      (ap answer_of (right_read rows N r) ∙ rw (more, many, class, method))
 
 -- SEALED: with a FINGERPRINT appended, what was whole is whole, with one attribute more
-module _ (d : List ℕ) {t : ℕ} (h : Bytes d) (e : answer d 0 (fingerprint d) ≡ Total t) where
+module _ (d : List ℕ) {t : ℕ} (h : Bytes d) (e : answer d 0 (fingerprint d) ≡ Ok t) where
   tiny : (fingerprint d).kind < 65536
   unfolding fingerprint
   tiny = omega arith
@@ -182,12 +181,12 @@ module _ (d : List ℕ) {t : ℕ} (h : Bytes d) (e : answer d 0 (fingerprint d) 
   print_right =
       ap (λ (b : Bool). pick b 0 15) (ap (λ (x : ℕ). same (four (fingerprint_at d (size_of d))) (four x)) own_sum ∙ same_refl (four (fingerprint_at d (size_of d))))
 
-  pub sealed : {c : MessageClass} {m : Method} {n : ℕ} → (reading_of rfc5389 (take (size_of d) d)).answer ≡ Whole c m n
-      → (reading_of rfc5389 (take t (appended d 0 (fingerprint d)))).answer ≡ Whole c m (n + 1)
+  pub sealed : {c : MessageClass} {m : Method} {n : ℕ} → answer_of (reading_of rfc5389 (take (size_of d) d)) ≡ Whole c m n
+      → answer_of (reading_of rfc5389 (take t (appended d 0 (fingerprint d)))) ≡ Whole c m (n + 1)
   sealed w = kept d h (fingerprint d) tiny e rfc5389 value_right print_right w
 
 -- SIGNED: the value appended is the digest of the bytes before it, as a check of the new datagram computes it
-pub signed : (key d : List ℕ) {t : ℕ} → Bytes d → answer d 0 (integrity key d) ≡ Total t
+pub signed : (key d : List ℕ) {t : ℕ} → Bytes d → answer d 0 (integrity key d) ≡ Ok t
     → integrity_at key (take t (appended d 0 (integrity key d))) (size_of d) ≡ (integrity key d).value
 unfolding integrity_at integrity
 signed key d {t} h e =
@@ -198,7 +197,7 @@ signed key d {t} h e =
     ∙ own_front d h there (integrity key d) n)
 
 -- and the message stays whole
-module _ (key d : List ℕ) {t : ℕ} (h : Bytes d) (e : answer d 0 (integrity key d) ≡ Total t) where
+module _ (key d : List ℕ) {t : ℕ} (h : Bytes d) (e : answer d 0 (integrity key d) ≡ Ok t) where
   pub low : (integrity key d).kind < 65536
   unfolding integrity
   low = omega arith
@@ -211,6 +210,6 @@ module _ (key d : List ℕ) {t : ℕ} (h : Bytes d) (e : answer d 0 (integrity k
   unfolding print_faults print_fault integrity
   no_print = refl
 
-  pub signed_whole : {c : MessageClass} {m : Method} {n : ℕ} → (reading_of rfc5389 (take (size_of d) d)).answer ≡ Whole c m n
-      → (reading_of rfc5389 (take t (appended d 0 (integrity key d)))).answer ≡ Whole c m (n + 1)
+  pub signed_whole : {c : MessageClass} {m : Method} {n : ℕ} → answer_of (reading_of rfc5389 (take (size_of d) d)) ≡ Whole c m n
+      → answer_of (reading_of rfc5389 (take t (appended d 0 (integrity key d)))) ≡ Whole c m (n + 1)
   signed_whole w = kept d h (integrity key d) low e rfc5389 mac_right no_print w

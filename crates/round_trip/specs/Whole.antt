@@ -8,15 +8,15 @@ use Rattle.attribute.specs.Attribute.{Attr}
 use Rattle.attribute.specs.Scan.{Pass}
 use Rattle.registry.specs.declared.Row.{Row}
 use Rattle.read_fingerprints.specs.Fingerprints.{print_faults}
-use Rattle.read_message.specs.Reading.{value_faults, reading_of}
+use Rattle.read_message.specs.Reading.{value_faults, reading_of, answer_of}
 use Rattle.read_message.specs.Whole.{attributes}
 use Rattle.read_message.proofs.WholeLaws.{Parts, parts, parts_told, told_whole}
-use Rattle.read_message.specs.declared.Answer.TheVariants.{Whole}
+use Rattle.read_message.specs.Reading.{Whole}
 use Rattle.round_trip.specs.Message.{Message, bytes_of, message_of, Shaped, Writable, Sound, write, Right, whole_with}
 use Rattle.round_trip.specs.Bijection.{bijection, read_written, header_again, covered_again}
 use Rattle.round_trip.specs.WriteAgain.{front_written}
 
-module _ (rows : List Row) (d : List ℕ) {c : MessageClass} {m : Method} {n : ℕ} (h : Bytes d) (e : (reading_of rows d).answer ≡ Whole c m n) where
+module _ (rows : List Row) (d : List ℕ) {c : MessageClass} {m : Method} {n : ℕ} (h : Bytes d) (e : answer_of (reading_of rows d) ≡ Whole c m n) where
   -- a whole datagram is within the rules
   pub whole_sound : Sound d
   whole_sound = let p : Parts rows d = parts rows d (told_whole rows d e) in record { octets = h; header = p.header; covered = p.covered }

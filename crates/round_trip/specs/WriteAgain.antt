@@ -1,7 +1,7 @@
 -- A message within the rules, written into a buffer that has room for it, is its bytes, and what stood behind them stays.
 use Prim.Native.Nat.{ℕ, ◌+◌, ◌≤◌, ◌<◌}
 use mathlib.Core.List.{List, [], ◌∷◌, ◌++◌, append_assoc, append-nil}
-use Rattle.std.specs.Prelude.{◌≡◌, refl, take}
+use Rattle.std.specs.Prelude.{◌≡◌, refl, take, Ok, Result}
 use Rattle.std.proofs.Common.{sym, ◌∙◌, length-append, drop-drop, take_at}
 use Rattle.std.proofs.Math.Path.{ap, ap₂}
 use native.Mathlib.Omega.{arith}
@@ -14,8 +14,7 @@ use Rattle.attribute.specs.Attribute.{Attr, all_bytes}
 use Rattle.attribute.specs.Attribute as one
 use Rattle.attribute.specs.Good.{Goods}
 use Rattle.write_begin.specs.Begin.{head_bytes, begin_fault, begun, beginning}
-use Rattle.write_begin.specs.declared.Written.{Written}
-use Rattle.write_begin.specs.declared.Written.TheVariants.{Total}
+use Rattle.wire.specs.declared.refusal.Refusal.{Refusal}
 use Rattle.write_raw.specs.Append.{answer}
 use Rattle.round_trip.specs.Message.{Message, bytes_of, Shaped, write_from, said_from, write, said}
 use Rattle.round_trip.specs.FrontLaws.{head_length, front, all_one, goods_one, step_answer, step_buffer}
@@ -34,10 +33,10 @@ module _ (t : ℕ) (id : List ℕ) (ht : t < 16384) (il : length id ≡ 12) wher
       ∙ more_buffer (xs ++ (a ∷ [])) ys (drop (length e) r) (goods_one xs a g h.0) h.1 (omega arith) (simp length-drop (omega arith))
       ∙ ap₂ (λ (s : List Attr) (u : List ℕ). front t id s ++ u) (append_assoc xs (a ∷ []) ys) (drop-drop (length (all_bytes ys)) (length e) r ∙ ap (λ (k : ℕ). drop k r) (sym l))
 
-  more_said : (xs ys : List Attr) (r : List ℕ) (w : Written) → w ≡ Total (20 + length (all_bytes xs)) → Goods xs → Goods ys
+  more_said : (xs ys : List Attr) (r : List ℕ) (w : Result ℕ Refusal) → w ≡ Ok (20 + length (all_bytes xs)) → Goods xs → Goods ys
       → length (all_bytes xs) + length (all_bytes ys) ≤ 65532 → length (all_bytes ys) ≤ length r
-      → said_from w (front t id xs ++ r) ys ≡ Total (20 + length (all_bytes (xs ++ ys)))
-  more_said xs [] r w q g h few room = q ∙ ap (λ (l : List Attr). Total (20 + length (all_bytes l))) (sym (append-nil xs))
+      → said_from w (front t id xs ++ r) ys ≡ Ok (20 + length (all_bytes (xs ++ ys)))
+  more_said xs [] r w q g h few room = q ∙ ap (λ (l : List Attr). Ok (20 + length (all_bytes l))) (sym (append-nil xs))
   more_said xs (a ∷ ys) r w q g h few room =
       let e : List ℕ = one.bytes_of a in
       let l : length (e ++ all_bytes ys) ≡ length e + length (all_bytes ys) = length-append e (all_bytes ys) in
@@ -46,7 +45,7 @@ module _ (t : ℕ) (id : List ℕ) (ht : t < 16384) (il : length id ≡ 12) wher
       ∙ more_said (xs ++ (a ∷ [])) ys (drop (length e) r) (answer (front t id xs ++ r) 0 a)
       (step_answer t id xs r ht il g (omega arith) a h.0 (omega arith) (omega arith))
       (goods_one xs a g h.0) h.1 (omega arith) (simp length-drop (omega arith))
-      ∙ ap (λ (s : List Attr). Total (20 + length (all_bytes s))) (append_assoc xs (a ∷ []) ys)
+      ∙ ap (λ (s : List Attr). Ok (20 + length (all_bytes s))) (append_assoc xs (a ∷ []) ys)
 
 pub bytes_length : (m : Message) → length m.id.bytes ≡ 12 → length (bytes_of m) ≡ 20 + length (all_bytes m.attributes)
 unfolding bytes_of
@@ -77,7 +76,7 @@ module _ (d : List ℕ) (m : Message) (w : Shaped m) (room : length (bytes_of m)
       rw no_fault
       (laid_is d 0 h (omega (arith, size)) ∙ ap₂ (λ (u : List ℕ) (k : ℕ). u ++ drop k d) (sym (append-nil h)) l)
 
-  first : begun d m.method ≡ Total 20
+  first : begun d m.method ≡ Ok 20
   unfolding begun
   first = rw no_fault
 
@@ -91,11 +90,11 @@ module _ (d : List ℕ) (m : Message) (w : Shaped m) (room : length (bytes_of m)
       ∙ ap (λ (u : List ℕ). bytes_of m ++ u) (drop-drop n 20 d ∙ ap (λ (k : ℕ). drop k d) (sym size))
 
   -- and the last answer is the message's size
-  pub answers : said d m ≡ Total (length (bytes_of m))
+  pub answers : said d m ≡ Ok (length (bytes_of m))
   answers =
       ap (λ (b : List ℕ). said_from (begun d m.method) b m.attributes) started
       ∙ more_said type m.id.bytes small w.id [] m.attributes (drop 20 d) (begun d m.method) first tt w.attributes (omega (arith, w.body)) (simp length-drop (omega (arith, size)))
-      ∙ ap (λ (k : ℕ). Total k) (sym size)
+      ∙ ap (λ (k : ℕ). Ok k) (sym size)
 
   pub front_written : take (length (bytes_of m)) (write d m) ≡ bytes_of m
   front_written = ap (take (length (bytes_of m))) written ∙ take_at (bytes_of m) (drop (length (bytes_of m)) d) (length (bytes_of m)) refl

@@ -2,7 +2,7 @@
 // program is to end with: 1 where a datagram or a line is at fault, 2 where something couldn't be read, written or understood.
 #![tactic(auto)]
 
-use hex_text::Hex;
+use hex_text::HexFault;
 use std::env::{Env, FillError};
 use std::io::Error;
 use std::process::ExitCode;
@@ -122,9 +122,9 @@ fn odd_key(rt: HostRuntime) -> Key {
 fn key_of(rt: HostRuntime, s: &[u8], key: &mut [u8]) -> Key {
     let h = hex_text::unhex(s, key);
     match h {
-        Hex::Bytes(size) => Key::Size(size),
-        Hex::Bad(p) => bad_key(rt, p),
-        Hex::Odd => odd_key(rt),
+        Ok(size) => Key::Size(size),
+        Err(HexFault::Bad(p)) => bad_key(rt, p),
+        Err(HexFault::Odd) => odd_key(rt),
     }
 }
 

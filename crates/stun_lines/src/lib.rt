@@ -5,7 +5,7 @@ pub mod answers;
 mod progress;
 
 use answers::{Job, answer};
-use hex_text::Hex;
+use hex_text::HexFault;
 use stun_io::buffered::{Output, ROOM};
 use stun_io::errors::{complain, complain_column, complain_number};
 use stun_io::input::{Got, MOST, read_behind};
@@ -74,9 +74,9 @@ fn one(
 ) -> Output {
     let h = hex_text::unhex(part(s, 0, without_return(s)), raw);
     match h {
-        Hex::Bytes(size) => answer(first(raw, size), job, key, o, buf),
-        Hex::Bad(p) => bad_line(line, plus_u64(p as u64, 1), o, buf),
-        Hex::Odd => bad_line(line, 0, o, buf),
+        Ok(size) => answer(first(raw, size), job, key, o, buf),
+        Err(HexFault::Bad(p)) => bad_line(line, plus_u64(p as u64, 1), o, buf),
+        Err(HexFault::Odd) => bad_line(line, 0, o, buf),
     }
 }
 

@@ -27,7 +27,7 @@ use wire::types::MessageClass;
 
 fn method_name(page: &mut Page, method: Method) {
     let n = names::method(method);
-    if n.size == 0 {
+    if n.is_empty() {
         page.print(b"method ");
         page.decimal(method.as_u16() as u64);
         return;

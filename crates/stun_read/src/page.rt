@@ -1,11 +1,9 @@
 // Names, columns and colours.
-use names::Name;
 use stun_io::parts::{minus, part};
 use stun_io::unbuffered::Page;
 
-pub fn named(page: &mut Page, n: Name) {
-    let letters = n.text;
-    page.print(part(&letters, 0, n.size));
+pub fn named(page: &mut Page, name: &str) {
+    page.print(name.as_bytes());
 }
 
 // So many blanks, up to 20.

@@ -11,13 +11,13 @@ use wire::transaction_id::TransactionId;
 // A type's name, or its number where it has none; answers how many characters that takes.
 fn kind_name(page: &mut Page, kind: u16) -> usize {
     let n = names::attribute(kind);
-    if n.size == 0 {
+    if n.is_empty() {
         page.print(b"0x");
         page.word(kind as u64, 4);
         return 6;
     }
     named(page, n);
-    n.size
+    n.len()
 }
 
 // PLACE NAME SIZE, in columns.
@@ -146,7 +146,7 @@ fn code(page: &mut Page, error: ErrorCode, phrase: &[u8]) {
     let n = error.code;
     let name = names::code(n);
     page.decimal(n as u64);
-    if name.size != 0 {
+    if !name.is_empty() {
         page.sign(b' ');
         named(page, name);
     }

@@ -2,8 +2,7 @@
 use crate::expected::Wanted;
 use crate::fields::{bytes_of, field, low, low_32, types_of};
 use crate::kinds::{is_address, is_text};
-use digits::Number;
-use hex_text::Hex;
+use hex_text::HexFault;
 use net::{Family, SocketAddr};
 use registry::ErrorCode;
 use stun_io::parts::part;
@@ -100,33 +99,33 @@ fn fields_of(call: Call) -> [Wanted; FIELDS] {
     }
 }
 
-fn size_of(h: Hex) -> Number {
+fn size_of(h: Result<usize, HexFault>) -> Option<u64> {
     match h {
-        Hex::Bytes(n) => Number::Is(n as u64),
-        _ => Number::Not,
+        Ok(n) => Some(n as u64),
+        _ => None,
     }
 }
 
 // The bytes of a field go to a place; answers how many they are.
-fn bytes_at(t: &[u8], bytes: &mut [u8], at: u64) -> Number {
+fn bytes_at(t: &[u8], bytes: &mut [u8], at: u64) -> Option<u64> {
     if (bytes.len() as u64) < at {
-        return Number::Not;
+        return None;
     }
     size_of(bytes_of(t, &mut bytes[at as usize..]))
 }
 
 // The reserved bits of an error code, which need not be told.
-fn reserved_of(t: &[u8]) -> Number {
+fn reserved_of(t: &[u8]) -> Option<u64> {
     if t.len() == 0 {
-        return Number::Is(0);
+        return Some(0);
     }
     digits::number_of(t)
 }
 
 // A field's number, or the size of its bytes, which go to the front or, as padding, behind those of the field before.
-fn number_of(t: &[u8], wanted: Wanted, before: u64, bytes: &mut [u8; LONGEST]) -> Number {
+fn number_of(t: &[u8], wanted: Wanted, before: u64, bytes: &mut [u8; LONGEST]) -> Option<u64> {
     match wanted {
-        Wanted::End => Number::Is(t.len() as u64),
+        Wanted::End => Some(t.len() as u64),
         Wanted::Padding => bytes_at(t, bytes, before),
         Wanted::Id | Wanted::Value | Wanted::Ip | Wanted::Bytes => bytes_at(t, bytes, 0),
         Wanted::Types => size_of(types_of(t, bytes)),
@@ -189,7 +188,7 @@ fn take(s: &[u8], wanted: [Wanted; FIELDS], bytes: &mut [u8; LONGEST]) -> Taken 
     let mut i = 0;
     while i < FIELDS {
         let w = wanted[i];
-        let Number::Is(n) = number_of(field(s, i + 1), w, t.last, bytes) else {
+        let Some(n) = number_of(field(s, i + 1), w, t.last, bytes) else {
             return Taken::Lacks(w);
         };
         if !fits(n, w) {
@@ -313,7 +312,7 @@ fn loaded(s: &[u8], store: &mut [u8]) -> Said {
     if field(s, 2).len() > 0 {
         return Said::Expected(Wanted::End);
     }
-    let Hex::Bytes(n) = bytes_of(field(s, 1), store) else {
+    let Ok(n) = bytes_of(field(s, 1), store) else {
         return Said::Expected(Wanted::Bytes);
     };
     if store.len() < n {

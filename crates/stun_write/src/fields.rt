@@ -1,6 +1,5 @@
 // The fields of a script's line, and what they say.
-use digits::Number;
-use hex_text::Hex;
+use hex_text::HexFault;
 use stun_io::parts::{between, find, plus};
 use stun_io::words::is_blank;
 
@@ -44,19 +43,19 @@ pub fn low_32(n: u64) -> u32 {
 }
 
 // The bytes that hex digits spell, `-` for none.
-pub fn bytes_of(t: &[u8], out: &mut [u8]) -> Hex {
+pub fn bytes_of(t: &[u8], out: &mut [u8]) -> Result<usize, HexFault> {
     if t.len() == 0 {
-        return Hex::Odd;
+        return Err(HexFault::Odd);
     }
     if let b"-" = t {
-        return Hex::Bytes(0);
+        return Ok(0);
     }
     hex_text::unhex(t, out)
 }
 
 // Puts a type's two bytes at a place; false where the text is no type or there is no room.
 fn put_type(t: &[u8], out: &mut [u8], at: usize) -> bool {
-    let Number::Is(n) = digits::number_of(t) else {
+    let Some(n) = digits::number_of(t) else {
         return false;
     };
     if 65535 < n {
@@ -66,9 +65,9 @@ fn put_type(t: &[u8], out: &mut [u8], at: usize) -> bool {
 }
 
 // The same of types parted by commas, two bytes each, `-` for none.
-pub fn types_of(t: &[u8], out: &mut [u8]) -> Hex {
+pub fn types_of(t: &[u8], out: &mut [u8]) -> Result<usize, HexFault> {
     if let b"-" = t {
-        return Hex::Bytes(0);
+        return Ok(0);
     }
     let mut from = 0;
     let mut at = 0;
@@ -76,14 +75,14 @@ pub fn types_of(t: &[u8], out: &mut [u8]) -> Hex {
     while left > 0 {
         let e = find(t, from, 44);
         if !put_type(between(t, from, e), out, at) {
-            return Hex::Odd;
+            return Err(HexFault::Odd);
         }
         at = plus(at, 2);
         if t.len() <= e {
-            return Hex::Bytes(at);
+            return Ok(at);
         }
         from = e + 1;
         left -= 1;
     }
-    Hex::Odd
+    Err(HexFault::Odd)
 }

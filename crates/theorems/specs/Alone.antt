@@ -1,7 +1,7 @@
 -- Nothing holds for want of cases: a header alone, of every class, method and ID, is whole and has no attributes.
 use Prim.Native.Nat.{ℕ, ◌*◌, ◌+◌, ◌/◌, ◌%◌, ◌<◌}
 use mathlib.Core.List.{List, [], ◌++◌}
-use Rattle.std.specs.Prelude.{◌≡◌, length, drop}
+use Rattle.std.specs.Prelude.{◌≡◌, length, drop, Ok}
 use Rattle.std.proofs.Math.Path.{refl}
 use Rattle.std.proofs.Common.{ap, ◌∙◌, drop_of_length-le}
 use native.Mathlib.Omega.{arith}
@@ -20,7 +20,6 @@ use Rattle.registry.specs.declared.Row.{Row}
 use Rattle.read_message.specs.Reading.{reading_of}
 use Rattle.read_message.specs.Whole.{Whole, attributes}
 use Rattle.read_message.proofs.WholeLaws.{Parts, parts_told, parts_whole}
-use Rattle.read_message.specs.declared.Answer.TheVariants as answer
 
 -- the header of class c, method m and ID i, with body length 0
 abbrev pub alone : MessageClass → ℕ → List ℕ → List ℕ
@@ -61,6 +60,6 @@ module _ (c : MessageClass) (m : ℕ) (i : List ℕ) (h : m < 4096) (l : length 
     pub alone_whole : Whole rows (alone c m i)
     alone_whole = parts_whole rows (alone c m i) whole_parts
 
-    pub alone_read : reading_of rows (alone c m i) ≡ record { answer = answer.Whole c (record { code = m }) 0; id = record { bytes = i } }
+    pub alone_read : reading_of rows (alone c m i) ≡ Ok (record { class = c; method = record { code = m }; id = record { bytes = i }; attributes = Ok 0 })
     unfolding id_of
     alone_read = parts_told rows (alone c m i) whole_parts ∙ rw (type_is, class_back (class_number c) m (class_small c), method_back (class_number c) m (class_small c), class_numbered_lem c, alone_none, take_all 12 i (omega arith))

@@ -12,11 +12,10 @@ use Rattle.attribute.specs.Attribute.{Attr, rest, parse}
 use Rattle.attribute.specs.Visits.{sizes, Visits, placed}
 use Rattle.attribute.proofs.CoverLaws.{sizes_rest, sizes_least, visits, visits_one}
 use Rattle.registry.specs.declared.Row.{Row}
-use Rattle.read_message.specs.Reading.{reading_of}
+use Rattle.read_message.specs.Reading.{reading_of, answer_of}
 use Rattle.read_message.specs.Whole.{Whole, attributes}
 use Rattle.read_message.proofs.WholeLaws.{Parts, parts, told, told_whole}
-use Rattle.read_message.specs.declared.Answer.TheVariants as answer
-use Rattle.read_message.specs.declared.Reading.{Reading}
+use Rattle.read_message.specs.Reading as answer
 
 module _ (rows : List Row) (d : List ℕ) (w : Whole rows d) where
   -- 4 plus the padded size, summed over the attributes, is the body length
@@ -38,5 +37,5 @@ module _ (rows : List Row) (d : List ℕ) (w : Whole rows d) where
   at_most h = omega (arith, covers, sizes_least (attributes d), byte_at d 2 h, byte_at d 3 h)
 
 -- the number told is the number of attributes
-pub count_told : (rows : List Row) (d : List ℕ) {c : MessageClass} {m : Method} {n : ℕ} → (reading_of rows d).answer ≡ answer.Whole c m n → n ≡ length (attributes d)
-count_told rows d {c} {m} {n} e = let f = ap (λ (r : Reading). r.answer) (told rows d (told_whole rows d e)) in cc
+pub count_told : (rows : List Row) (d : List ℕ) {c : MessageClass} {m : Method} {n : ℕ} → answer_of (reading_of rows d) ≡ answer.Whole c m n → n ≡ length (attributes d)
+count_told rows d {c} {m} {n} e = let f = ap answer_of (told rows d (told_whole rows d e)) in cc

@@ -1,5 +1,5 @@
 -- NOT EMPTY: a FINGERPRINT appended to a whole message makes a datagram of the kind that demand 3 speaks of.
-use Rattle.std.specs.Prelude.{ℕ, ◌+◌, ◌-◌, ◌^◌, ◌<◌, ◌≡◌, refl, take}
+use Rattle.std.specs.Prelude.{ℕ, ◌+◌, ◌-◌, ◌^◌, ◌<◌, ◌≡◌, refl, take, Ok}
 use mathlib.Core.List.{List, [], ◌∷◌, ◌++◌}
 use Rattle.std.proofs.Common.{sym}
 use Rattle.std.proofs.Math.Path.{ap, subst}
@@ -17,10 +17,9 @@ use Rattle.wire.specs.declared.types.MessageClass.{MessageClass}
 use Rattle.attribute.specs.Attribute.{Attr}
 use Rattle.fingerprint.specs.Fingerprint.{fingerprint_at}
 use Rattle.registry.specs.Rows.{rfc5389}
-use Rattle.read_message.specs.Reading.{reading_of}
+use Rattle.read_message.specs.Reading.{reading_of, answer_of}
 use Rattle.read_message.proofs.WholeLaws.{told_whole}
-use Rattle.read_message.specs.declared.Answer.TheVariants.{Whole}
-use Rattle.write_begin.specs.declared.Written.TheVariants.{Total}
+use Rattle.read_message.specs.Reading.{Whole}
 use Rattle.write_plan.specs.Plan.{size_of}
 use Rattle.write_plan.proofs.PlanLaws as plan
 use Rattle.write_raw.specs.Append.{answer, appended}
@@ -62,7 +61,7 @@ sum_lt d p b h =
     let r : bytes_from 0xFFFF_FFFF m < 2 ^ 32 = register_lt 0xFFFF_FFFF m (omega arith) (with_length_bytes (take p d) (p - 20 + 8) h (take-bytes p d b)) in
     xor_lt 32 (bit_xor (bytes_from 0xFFFF_FFFF m) 0xFFFF_FFFF) 0x5354554E (xor_lt 32 (bytes_from 0xFFFF_FFFF m) 0xFFFF_FFFF r (omega arith)) (omega arith)
 
-module _ (d : List ℕ) {t : ℕ} (h : Bytes d) (e : answer d 0 (fingerprint d) ≡ Total t) where
+module _ (d : List ℕ) {t : ℕ} (h : Bytes d) (e : answer d 0 (fingerprint d) ≡ Ok t) where
   abbrev N : Message
   N = with (held d) (fingerprint d)
 
@@ -84,7 +83,7 @@ module _ (d : List ℕ) {t : ℕ} (h : Bytes d) (e : answer d 0 (fingerprint d) 
     octets = octets_one (held d).attributes (fingerprint d) before_writable.octets value_bytes.0 value_bytes.1;
   }
 
-  pub sealed_ends : {c : MessageClass} {m : Method} {n : ℕ} → (reading_of rfc5389 (take (size_of d) d)).answer ≡ Whole c m n
+  pub sealed_ends : {c : MessageClass} {m : Method} {n : ℕ} → answer_of (reading_of rfc5389 (take (size_of d) d)) ≡ Whole c m n
       → Ends rfc5389 (take t (appended d 0 (fingerprint d)))
   unfolding message_of fingerprint
   sealed_ends w = record {

@@ -1,5 +1,6 @@
 -- THE SHEET (docs/SCOPE.md, "Sheet of examples"), P1 to P10: one table, and one statement over it.
-use Rattle.std.specs.Prelude.{ℕ, ◌+◌, ◌≤◌, List, [], ◌∷◌, ◌++◌, ◌≡◌, refl, length, take, drop, replicate}
+use Rattle.wire.specs.Refusal.{by}
+use Rattle.std.specs.Prelude.{ℕ, ◌+◌, ◌≤◌, List, [], ◌∷◌, ◌++◌, ◌≡◌, refl, length, take, drop, replicate, Ok, Err}
 use Rattle.base.specs.Said.{Said, says}
 use Rattle.base.specs.Same.{same}
 use Rattle.base.specs.Laid.{laid}
@@ -16,10 +17,9 @@ use Rattle.registry.specs.Rows.{rfc5389, look, entry_said, rule_in}
 use Rattle.registry.specs.ErrorCode.{code_of}
 use Rattle.registry.specs.Fault.{fault, entry_fault, rule_fault, address_fault, code_fault}
 use Rattle.read_fingerprints.specs.Fingerprints.{print_faults, print_fault}
-use Rattle.read_message.specs.Reading.{answer_said, reading_of, outcome, value_faults}
+use Rattle.read_message.specs.Reading.{answer_said, reading_of, outcome, value_faults, answer_of, id_in}
 use Rattle.read_first.specs.First.{first_from, first_in, is_whole, first, value_of}
-use Rattle.read_typed.specs.Typed.{value_said, typed_said, ip_of, address_of, said_by, read_of, typed_of}
-use Rattle.write_begin.specs.declared.Written.TheVariants.{Total, Refused}
+use Rattle.read_typed.specs.Typed.{value_said, typed_said, ip_of, address_of, read_of, typed_of}
 use Rattle.write_plan.specs.Plan.{message_fault, covers, plan_of}
 use Rattle.write_raw.specs.Append.{attr, answered, written, plan_for, answer, appended}
 use Rattle.round_trip.specs.Message.{write, said}
@@ -45,15 +45,15 @@ header t l = two t ++ two l ++ cookie ++ (0 ∷ 1 ∷ 2 ∷ 3 ∷ 4 ∷ 5 ∷ 6 
 -- what a row says
 abbrev pub Holds : Row → Type 0
 Holds (numbers c m t) = (type_of c m ≡ t) × (class_of t ≡ c) × (method_of t ≡ m)
-Holds (reads d s) = answer_said (reading_of rfc5389 d).answer [] ≡ s
-Holds (serves d k s) = typed_said (typed_of rfc5389 k (value_of (first rfc5389 k d)) (reading_of rfc5389 d).id) ≡ s
+Holds (reads d s) = answer_said (answer_of (reading_of rfc5389 d)) [] ≡ s
+Holds (serves d k s) = typed_said (typed_of rfc5389 k (value_of (first rfc5389 k d)) (record { bytes = id_in (reading_of rfc5389 d) })) ≡ s
 Holds (keeps b a) =
     (entry_said (look rfc5389 a.kind) ≡ says 1 0 []) × (parse 0 b ≡ more a (stop []))
     × (appended (header 1 0 ++ replicate {A = ℕ} (length b) 0) 0 a ≡ header 1 (length b) ++ b)
 Holds (fills n t) =
     (b : List ℕ) → t ≤ length b
-    → (said b (zeros n) ≡ Total t)
-    × ((a : Attr) → length a.value + length a.pad ≡ padded (length a.value) → answer (write b (zeros n)) 0 a ≡ Refused 25)
+    → (said b (zeros n) ≡ Ok t)
+    × ((a : Attr) → length a.value + length a.pad ≡ padded (length a.value) → answer (write b (zeros n)) 0 a ≡ Err (by 25))
 
 abbrev Each : List Row → Type 0
 Each [] = Unit {0}
@@ -105,6 +105,6 @@ sheet =
     ∷ []
 
 pub holds : Each sheet
-unfolding type_of class_of method_of answer_said reading_of outcome scanned scan parse value_faults print_faults print_fault fault look rule_in entry_fault rule_fault address_fault code_fault is_utf8 goes header_fault front_fault be16 cookie_at same class_numbered id_of first first_in first_from is_whole value_of typed_said value_said typed_of read_of said_by address_of code_of ip_of put fits_at laid addr_xor xored entry_said appended plan_for plan_of written answered message_fault covers
+unfolding type_of class_of method_of answer_said reading_of outcome scanned scan parse value_faults print_faults print_fault fault look rule_in entry_fault rule_fault address_fault code_fault is_utf8 goes header_fault front_fault be16 cookie_at same class_numbered id_of first first_in first_from is_whole value_of typed_said value_said typed_of read_of address_of code_of ip_of put fits_at laid addr_xor xored entry_said appended plan_for plan_of written answered message_fault covers
 holds =
     ((refl, refl, refl), ((refl, refl, refl), ((refl, refl, refl), ((refl, refl, refl), ((refl, refl, refl), ((refl, refl, refl), ((refl, refl, refl), ((refl, refl, refl), (refl, (refl, (refl, (refl, (refl, (refl, (refl, ((refl, refl, refl), (refl, (refl, (refl, (refl, (refl, (refl, (longest, tt)))))))))))))))))))))))

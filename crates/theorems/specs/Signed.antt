@@ -1,5 +1,5 @@
 -- SIGNED: where a whole message has no MESSAGE-INTEGRITY yet, the one appended with a key is found good by that key (docs/SCOPE.md, "Checking integrity").
-use Rattle.std.specs.Prelude.{ℕ, ◌+◌, List, [], ◌∷◌, ◌++◌, Bool, true, false, ◌≡◌, length, take, eqb}
+use Rattle.std.specs.Prelude.{ℕ, ◌+◌, List, [], ◌∷◌, ◌++◌, Bool, true, false, ◌≡◌, length, take, eqb, Ok}
 use Rattle.std.proofs.Math.Path.{refl, ap}
 use Rattle.std.proofs.Common.{sym, ◌∙◌, arith, add-zero, eq-eqb, length-append}
 use Rattle.base.specs.Choice.{pick}
@@ -8,10 +8,9 @@ use Rattle.wire.specs.declared.method.Method.{Method}
 use Rattle.wire.specs.declared.types.MessageClass.{MessageClass}
 use Rattle.attribute.specs.Attribute.{Attr, bytes_of, all_bytes}
 use Rattle.registry.specs.Rows.{rfc5389}
-use Rattle.read_message.specs.Reading.{reading_of}
-use Rattle.read_message.specs.declared.Answer.TheVariants.{Whole}
+use Rattle.read_message.specs.Reading.{reading_of, answer_of}
+use Rattle.read_message.specs.Reading.{Whole}
 use Rattle.read_first.specs.First.{none, starts, first_from, first_in, whole_by, is_whole, is_there}
-use Rattle.write_begin.specs.declared.Written.TheVariants.{Total}
 use Rattle.write_plan.specs.Plan.{size_of}
 use Rattle.write_plan.proofs.PlanLaws.{message}
 use Rattle.write_plan.proofs.PlanLaws as plan
@@ -39,7 +38,7 @@ first_behind k p (x ∷ xs) a e f = go (eqb x.kind k) f (λ r. first_behind k (p
         let n : p + length (bytes_of x) + length (all_bytes xs) ≡ p + length (bytes_of x ++ all_bytes xs) = omega (arith, length-append (bytes_of x) (all_bytes xs)) in
         ih r ∙ ap (λ (q : ℕ). starts q a) n
 
-module _ (key d : List ℕ) {t : ℕ} (h : Bytes d) (e : answer d 0 (integrity key d) ≡ Total t) where
+module _ (key d : List ℕ) {t : ℕ} (h : Bytes d) (e : answer d 0 (integrity key d) ≡ Ok t) where
   there : plan.Message d
   there = message d (total_goes d 0 (integrity key d) e).2.fault
 
@@ -54,7 +53,7 @@ module _ (key d : List ℕ) {t : ℕ} (h : Bytes d) (e : answer d 0 (integrity k
       ∙ first_behind 0x0008 20 (held d).attributes (integrity key d) kind_is f
       ∙ ap (λ (n : ℕ). starts (20 + n) (integrity key d)) (held_length d h there)
 
-  pub signed_good : {c : MessageClass} {m : Method} {n : ℕ} → (reading_of rfc5389 (take (size_of d) d)).answer ≡ Whole c m n
+  pub signed_good : {c : MessageClass} {m : Method} {n : ℕ} → answer_of (reading_of rfc5389 (take (size_of d) d)) ≡ Whole c m n
       → first_in 0x0008 (take (size_of d) d) ≡ none → integrity_fault rfc5389 (take t (appended d 0 (integrity key d))) key ≡ 0
   unfolding is_whole
   signed_good w f =

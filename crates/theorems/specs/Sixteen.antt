@@ -2,7 +2,9 @@
 -- list of RFC 5389, no datagram brought it: the reading with that number and the reading without it are the same, of every list of bytes.
 -- Shut out is a reader that in losing the number answers some datagram otherwise: one that says 14 of a FINGERPRINT that differs meets
 -- every other theorem here.
-use Rattle.std.specs.Prelude.{ℕ, ◌+◌, ◌-◌, ◌%◌, ◌≤◌, ◌<◌, List, [], ◌∷◌, ◌++◌, Bool, get_or, drop, replicate, leb}
+use Rattle.wire.specs.declared.refusal.Refusal.{Refusal}
+use Rattle.wire.specs.Refusal.{by}
+use Rattle.std.specs.Prelude.{ℕ, ◌+◌, ◌-◌, ◌%◌, ◌≤◌, ◌<◌, List, [], ◌∷◌, ◌++◌, Bool, get_or, drop, leb, Option, Some, None, Result, Ok, Err}
 use Rattle.std.proofs.Math.Bool.{true, false}
 use Rattle.std.proofs.Math.Path.{◌≡◌, refl, sym, ap}
 use Rattle.std.proofs.Common.{◌∙◌}
@@ -24,24 +26,19 @@ use Rattle.header.specs.Header.{front_fault, header_fault, id_of}
 use Rattle.header.specs.HeaderLaws.{sized}
 use Rattle.attribute.specs.Attribute.{Attr, Body, stop, more, attrs, rest, parse, bytes_of, all_bytes}
 use Rattle.attribute.proofs.RoundTripLaws.{write_read}
-use Rattle.attribute.specs.Scan.{scan, scanned, Pass}
-use Rattle.attribute.specs.declared.Scan.{Scan}
-use Rattle.attribute.specs.declared.Scan.TheVariants.{Passed, Fault}
+use Rattle.attribute.specs.Scan.{Scan, at_fault, scan_said, scan, scanned, Pass}
 use Rattle.attribute.specs.PassLaws.{passed_all}
 use Rattle.utf8_spec.specs.Utf8.{is_utf8}
 use Rattle.fingerprint.specs.Fingerprint.{fingerprint_at, printed}
 use Rattle.fingerprint.specs.FingerprintLaws.{owes_sum}
-use Rattle.registry.specs.Rows.{look, rfc5389}
+use Rattle.registry.specs.Rows.{look, rfc5389, row}
 use Rattle.registry.specs.Fault.{address_fault, code_fault, rule_fault, entry_fault, fault}
 use Rattle.registry.specs.declared.Row.{Row}
 use Rattle.registry.specs.declared.Rule.{Rule}
 use Rattle.registry.specs.declared.Rule.TheVariants.{Address, XorAddress, Text, Code, Types, Plain}
-use Rattle.registry.specs.declared.Entry.{Entry}
-use Rattle.registry.specs.declared.Entry.TheVariants.{Listed, Unknown}
 use Rattle.read_fingerprints.specs.Fingerprints.{print_fault, print_faults}
 use Rattle.read_message.specs.Reading.{value_faults, and_then, outcome, answered, answer_said, reading_said, reading_of}
 use Rattle.read_message.proofs.WholeLaws.{number_by, judged_answer, refused_answer}
-use Rattle.read_message.specs.declared.Answer.TheVariants.{Refused}
 use Rattle.read_message.specs.declared.Reading.{Reading}
 
 -- ---- the reading while there was a number 16
@@ -51,16 +48,16 @@ unfoldable pub print_faults_with_sixteen : List ℕ → ℕ → Attr → ℕ
 print_faults_with_sixteen d p a =
     pick (eqb a.kind 0x8028) (pick (ltb 65535 (p - 20 + 8)) 16 (pick (same a.value (four (fingerprint_at d p))) 0 15)) 0
 
-unfoldable pub reading_with_sixteen : List Row → List ℕ → Reading
+unfoldable pub reading_with_sixteen : List Row → List ℕ → Result Reading Refusal
 reading_with_sixteen rows d =
     pick (eqb (header_fault d) 0)
-    (record {
-      answer =
-          answered (class_numbered (class_of (be16 d 0))) (record { code = method_of (be16 d 0) })
-          (and_then (scanned (value_faults rows) d) (scanned (print_faults_with_sixteen d) d));
+    (Ok (record {
+      class = class_numbered (class_of (be16 d 0));
+      method = record { code = method_of (be16 d 0) };
       id = record { bytes = id_of d };
-    })
-    (record { answer = Refused (header_fault d); id = record { bytes = replicate 12 0 } })
+      attributes = and_then (scanned (value_faults rows) d) (scanned (print_faults_with_sixteen d) d);
+    }))
+    (Err (by (header_fault d)))
 
 -- ---- the numbers of the reading are smaller
 
@@ -104,10 +101,11 @@ rule_small Code v =
 rule_small Types v = either (eqb (length v % 2) 0) (small 0 (omega arith)) (small 11 (omega arith))
 rule_small Plain v = small 0 (omega arith)
 
-size_small : (x : Entry) (v : List ℕ) → Small (entry_fault x v)
+size_small : (x : Option Row) (v : List ℕ) → Small (entry_fault x v)
 unfolding entry_fault
-size_small Unknown v = small 0 (omega arith)
-size_small (Listed l g q) v = either (ltb (length v) l) (small 11 (omega arith)) (either (ltb g (length v)) (small 11 (omega arith)) (rule_small q v))
+size_small None v = small 0 (omega arith)
+size_small (Some r) v =
+    either (ltb (length v) r.least) (small 11 (omega arith)) (either (ltb r.greatest (length v)) (small 11 (omega arith)) (rule_small r.rule v))
 
 values_small : (rows : List Row) (p : ℕ) (a : Attr) → value_faults rows p a < 16
 unfolding value_faults fault
@@ -119,24 +117,24 @@ prints_small d p a =
     (either (eqb a.kind 0x8028) (either (same a.value (four (printed d p))) (small 0 (omega arith)) (small 15 (omega arith))) (small 0 (omega arith))).is
 
 -- a fault that a scan finds is 10 or one of its faults
-scan_small : (f : ℕ → Attr → ℕ) → ((p : ℕ) (a : Attr) → f p a < 16) → (n p : ℕ) (b : Body) {r q : ℕ} → scan f n p b ≡ Fault r q → r < 16
-unfolding scan
+scan_small : (f : ℕ → Attr → ℕ) → ((p : ℕ) (a : Attr) → f p a < 16) → (n p : ℕ) (b : Body) {r q : ℕ} → scan f n p b ≡ at_fault r q → r < 16
+unfolding scan scan_said
 scan_small f h n p (stop []) e = let z : ◌≡◌ {A = ℕ} 0 1 = cc in absurd (omega arith)
-scan_small f h n p (stop (x ∷ s)) {r} e = let z : 10 ≡ r = cc in omega arith
+scan_small f h n p (stop (x ∷ s)) {r} e = let z : 10 ≡ r = ap (λ (s : Scan). (scan_said s).number) e in omega arith
 scan_small f h n p (more a b) {r} {q} e = go (eqb (f p a) 0) e (scan_small f h (n + 1) (p + length (bytes_of a)) b)
   where
-    go : (t : Bool) → pick t (scan f (n + 1) (p + length (bytes_of a)) b) (Fault (f p a) p) ≡ Fault r q
-        → (scan f (n + 1) (p + length (bytes_of a)) b ≡ Fault r q → r < 16) → r < 16
+    go : (t : Bool) → ◌≡◌ {A = Scan} (pick t (scan f (n + 1) (p + length (bytes_of a)) b) (at_fault (f p a) p)) (at_fault r q)
+        → (scan f (n + 1) (p + length (bytes_of a)) b ≡ at_fault r q → r < 16) → r < 16
     go true g ih = ih g
-    go false g ih = let z : f p a ≡ r = cc in omega (arith, h p a)
+    go false g ih = let z : f p a ≡ r = ap (λ (s : Scan). (scan_said s).number) g in omega (arith, h p a)
 
 module _ (rows : List Row) (d : List ℕ) where
   scans : (c : MessageClass) (m : Method) (s t : Scan) → s ≡ scanned (value_faults rows) d → t ≡ scanned (print_faults d) d
       → (i : List ℕ) → (answer_said (answered c m (and_then s t)) i).number < 16
   unfolding scanned answer_said
-  scans c m (Passed n) (Passed k) e f i = omega arith
-  scans c m (Passed n) (Fault r p) e f i = scan_small (print_faults d) (prints_small d) 0 20 (parse 0 (drop 20 d)) (sym f)
-  scans c m (Fault r p) t e f i = scan_small (value_faults rows) (values_small rows) 0 20 (parse 0 (drop 20 d)) (sym e)
+  scans c m (Ok n) (Ok k) e f i = omega arith
+  scans c m (Ok n) (Err x) e f i = scan_small (print_faults d) (prints_small d) 0 20 (parse 0 (drop 20 d)) (sym f)
+  scans c m (Err x) t e f i = scan_small (value_faults rows) (values_small rows) 0 20 (parse 0 (drop 20 d)) (sym e)
 
   below_sixteen : (reading_said (reading_of rows d)).number < 16
   unfolding outcome answer_said
@@ -148,7 +146,7 @@ module _ (rows : List Row) (d : List ℕ) where
 
 -- ---- and the old one is the same, under a list in which FINGERPRINT has four bytes
 
-module _ (rows : List Row) (rule : Rule) (four-only : look rows 0x8028 ≡ Listed 4 4 rule) where
+module _ (rows : List Row) (rule : Rule) (four-only : look rows 0x8028 ≡ Some (row 0x8028 4 4 rule)) where
   four_bytes : (v : List ℕ) → fault rows 0x8028 v ≡ 0 → length v ≡ 4
   unfolding fault entry_fault
   four_bytes v e = go (ltb (length v) 4) (ltb 4 (length v)) refl refl (ap (λ x. entry_fault x v) (sym four-only) ∙ e)
@@ -195,8 +193,8 @@ module _ (rows : List Row) (rule : Rule) (four-only : look rows 0x8028 ≡ Liste
     outcome_as_before : header_fault d ≡ 0 → (s : Scan) → scanned (value_faults rows) d ≡ s
         → and_then s (scanned (print_faults_with_sixteen d) d) ≡ and_then s (scanned (print_faults d) d)
     unfolding scanned be16
-    outcome_as_before z (Fault r p) e = refl
-    outcome_as_before z (Passed n) e =
+    outcome_as_before z (Err x) e = refl
+    outcome_as_before z (Ok n) e =
         let b : Body = parse 0 (drop 20 d) in
         let w : length (all_bytes (attrs b)) + length (rest b) ≡ length (drop 20 d) =
         sym (length-append (all_bytes (attrs b)) (rest b)) ∙ ap length (write_read 0 (drop 20 d) (drop-bytes 20 d h))
@@ -213,7 +211,7 @@ module _ (rows : List Row) (rule : Rule) (four-only : look rows 0x8028 ≡ Liste
         by (no l) = rw (outcome_as_before (omega arith) (scanned (value_faults rows) d) refl)
 
     pub no_sixteen : (reading_said (reading_with_sixteen rows d)).number ≡ 16 → ⊥
-    no_sixteen w = omega (arith, below_sixteen rows d, ap (λ (r : Reading). (reading_said r).number) sixteen_never)
+    no_sixteen w = omega (arith, below_sixteen rows d, ap (λ (r : Result Reading Refusal). (reading_said r).number) sixteen_never)
 
 -- the list of the reader is such a one
 pub sixteen_never_of_rfc5389 : (d : List ℕ) → Bytes d → reading_with_sixteen rfc5389 d ≡ reading_of rfc5389 d

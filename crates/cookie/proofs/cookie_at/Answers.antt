@@ -1,22 +1,9 @@
-use mathlib.Core.Path.{refl}
-use native.Mathlib.Omega.{arith}
-use Rattle.cookie.proofs.Cookies.{start, turn, differs, done, short}
+use Rattle.std.proofs.Common.{arith}
+use Rattle.cookie.proofs.Cookies.{here, nowhere}
 use Rattle.cookie.proofs.cookie_at.Goals as goal
 
-pub returns-then-d-at : goal.returns-then-d-at
-returns-then-d-at c = short _ _ (omega arith)
+pub returns-in-None : goal.returns-in-None
+returns-in-None c = nowhere _ _ (omega (arith, c.in-None.ensures.lookup))
 
-pub returns-then-d-at-lt4 : goal.returns-then-d-at-lt4
-returns-then-d-at-lt4 c = short _ _ (omega arith)
-
-pub loop-i-init : goal.loop-i-init
-loop-i-init c = start _ _ _ refl (omega arith) (omega arith)
-
-pub returns-then-d-at-2 : goal.returns-then-d-at-2
-returns-then-d-at-2 c = search (differs)
-
-pub loop-i-preserved : goal.loop-i-preserved
-loop-i-preserved c = search (turn)
-
-pub returns : goal.returns
-returns c = search (done)
+pub returns-in-Some : goal.returns-in-Some
+returns-in-Some c = here _ _ c.in-Some.ensures.lookup.0.2 c.starts_with.ensures.value

@@ -1,10 +1,6 @@
-use Prim.Native.Nat.{◌-◌}
-use lib.ListN.{length}
-use Rattle.digits.proofs.Values.{Valuing}
+use Rattle.std.proofs.Common.{◌≡◌, drop}
+use Rattle.digits.specs.Number.{value_from}
 use Rattle.digits.proofs.value_in.Given as goal
 
-abbrev pub invariant-loop-i : goal.invariant-loop-i
-invariant-loop-i l = Valuing l.base l.s l.from l.n l.i
-
-abbrev pub decreases-loop-i : goal.decreases-loop-i
-decreases-loop-i l = length l.s - l.i
+abbrev pub invariant-loop-b : goal.invariant-loop-b
+invariant-loop-b l = value_from l.base l.n (drop l.b-index l.s) ≡ value_from l.base 0 l.s

@@ -1,9 +1,7 @@
-use Prim.Native.Nat.{◌-◌}
-use Rattle.hex_text.proofs.Laying.{Showing}
+use Rattle.std.specs.Prelude.{◌*◌}
+use Rattle.base.specs.LaidLaws.{Laying}
+use Rattle.hex_text.specs.Hex.{digits}
 use Rattle.hex_text.proofs.show.Given as goal
 
 abbrev pub invariant-loop-i : goal.invariant-loop-i
-invariant-loop-i l = Showing l.initial.out l.d l.out l.i
-
-abbrev pub decreases-loop-i : goal.decreases-loop-i
-decreases-loop-i l = l.n - l.i
+invariant-loop-i l = Laying l.fn.out (digits l.b-items) 0 l.out (l.i * 2)

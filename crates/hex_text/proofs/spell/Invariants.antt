@@ -1,9 +1,6 @@
-use Prim.Native.Nat.{◌-◌}
-use Rattle.hex_text.proofs.Laying.{Spelling}
+use Rattle.base.specs.LaidLaws.{Laying}
+use Rattle.hex_text.proofs.Laying.{fitting}
 use Rattle.hex_text.proofs.spell.Given as goal
 
 abbrev pub invariant-loop-i : goal.invariant-loop-i
-invariant-loop-i l = Spelling l.initial.out l.s l.out l.i
-
-abbrev pub decreases-loop-i : goal.decreases-loop-i
-decreases-loop-i l = l.n - l.i
+invariant-loop-i l = Laying l.fn.out (fitting l.fn.out l.s) 0 l.out l.i

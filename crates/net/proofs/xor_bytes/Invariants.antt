@@ -1,10 +1,6 @@
-use Prim.Native.Nat.{◌-◌}
-use lib.ListN.{length}
-use Rattle.net.proofs.Xoring.{Xoring}
+use Rattle.std.proofs.Common.{◌≡◌, take}
+use Rattle.net.specs.Net.{xored}
 use Rattle.net.proofs.xor_bytes.Given as goal
 
 abbrev pub invariant-loop-i : goal.invariant-loop-i
-invariant-loop-i l = Xoring l.initial.buf l.mask l.buf l.i
-
-abbrev pub decreases-loop-i : goal.decreases-loop-i
-decreases-loop-i l = length l.initial.buf - l.i
+invariant-loop-i l = l.buf ≡ xored l.fn.buf (take l.i l.mask)
