@@ -1,15 +1,12 @@
 -- What the append of an address returns and leaves in the buffer, case by case.
-use Prim.Native.Nat.{ℕ}
-use mathlib.Core.List.{List}
-use mathlib.Core.Path.{◌≡◌, sym, ap, ap₂, ◌∙◌}
-use native.Mathlib.Omega.{arith}
-use borrow.Author.Tests.{ne_eqb}
+use Rattle.std.specs.Prelude.{ℕ, List, ◌≡◌, Result}
+use Rattle.std.proofs.Common.{sym, ap, ap₂, ◌∙◌, arith, ne_eqb}
+use Rattle.wire.specs.declared.refusal.Refusal.{Refusal}
 use Rattle.attribute.specs.Attribute.{Attr}
 use Rattle.net.specs.Net.{family_number}
 use Rattle.net.specs.declared.Family.{Family}
 use Rattle.net.specs.declared.Family.TheVariants.{Ipv4, Ipv6}
 use Rattle.registry.specs.Rows.{rfc5389, rule_of}
-use Rattle.write_begin.specs.declared.Written as begin
 use Rattle.write_raw.specs.Append.{answer, appended}
 use Rattle.write_raw.specs.AppendLaws.{answer_wrong, appended_wrong}
 use Rattle.write_address.specs.Address.{address_refusal, address_attr}
@@ -28,7 +25,7 @@ module _ (d : List ℕ) (k : ℕ) (a : c.Address) where
 
   -- of a family
   module _ (f : Family) (e : a.family ≡ family_number f) where
-    pub tells : {w : begin.Written} {r : Written} → w ≡ answer d (address_refusal (rule_of rfc5389 k)) (address_attr rfc5389 d k (addr f a)) → r ≡ told w
+    pub tells : {w : Result ℕ Refusal} {r : Written} → w ≡ answer d (address_refusal (rule_of rfc5389 k)) (address_attr rfc5389 d k (addr f a)) → r ≡ told w
         → r ≡ told (answer d (refusal_of k a) (attr_of d k a))
     tells g h = h ∙ ap told (g ∙ ap₂ (answer d) (same f e).0 (same f e).1)
 
@@ -42,7 +39,7 @@ module _ (d : List ℕ) (k : ℕ) (a : c.Address) where
     unfolding refusal_of
     none = rw (ne_eqb a.family 1 n, ne_eqb a.family 2 m)
 
-    pub tells_none : {w : begin.Written} {r : Written} → w ≡ answer d 23 x → r ≡ told w → r ≡ told (answer d (refusal_of k a) (attr_of d k a))
+    pub tells_none : {w : Result ℕ Refusal} {r : Written} → w ≡ answer d 23 x → r ≡ told w → r ≡ told (answer d (refusal_of k a) (attr_of d k a))
     tells_none g h =
         h ∙ ap told (g ∙ answer_wrong d 23 (λ z. omega arith) x (attr_of d k a) ∙ ap (λ (y : ℕ). answer d y (attr_of d k a)) none)
 

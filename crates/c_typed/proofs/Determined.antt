@@ -1,10 +1,8 @@
 -- The contracts of the calls determine their answers and the buffer.
-use Prim.Native.Nat.{ℕ}
-use mathlib.Core.List.{List}
-use mathlib.Core.Path.{ap₂}
+use Rattle.std.specs.Prelude.{ℕ, List, length}
+use Rattle.std.proofs.Common.{ap₂}
 use Rattle.base.specs.DeterminedLaws.{by}
 use Rattle.base.specs.Determined.{Determines}
-use lib.ListN.{length}
 use Rattle.registry.specs.Rows.{rfc5389}
 use Rattle.registry.specs.ErrorCode.{code_value}
 use Rattle.read_typed.specs.Typed.{typed_of, part_of, part_at}

@@ -18,11 +18,12 @@ use c_write::{Written, in_numbers};
 use net::{Family, SocketAddr};
 use read_typed::Value;
 use registry::ErrorCode;
+use wire::refusal::Refusal;
 use wire::transaction_id::TransactionId;
 use write_address::append_address;
 use write_typed::append_value;
 
-// What a value says, where `number` is 0; the part is one of the value.
+// What a value says, where `number` is 0; the part is one of the value. A struct of include/cratehoist.h, since C has no `Result`.
 #[repr(C)]
 #[derive(Clone, Copy)]
 pub struct Typed {
@@ -36,68 +37,48 @@ pub struct Typed {
     pub size: usize,
 }
 
-// The size of a phrase, which is what stands behind the first four bytes.
-fn behind_code(size: usize) -> usize
-    ensures { result ≡ size - 4 }
-{
-    if size < 4 {
-        return 0;
-    }
-    size - 4
-}
+const NOTHING: Typed = Typed {
+    number: 0,
+    family: 0,
+    port: 0,
+    code: 0,
+    reserved: 0,
+    ip: [0; 16],
+    start: 0,
+    size: 0,
+};
 
 // The part is told from what the value says, so that it is judged once.
 pub fn cratehoist_typed_value(kind: u16, value: &[u8], id: Id) -> Typed
     ensures { result ≡ typed_told (typed_of rfc5389 kind value.now (record { bytes = id.bytes })) (part_at rfc5389 kind value.now) (length (part_of rfc5389 kind value.now)) }
 {
     let bytes = id.bytes;
-    let t = read_typed::value_of(kind, value, TransactionId { bytes: bytes });
-    let ip = t.ip;
-    let v = t.value;
-    match v {
-        Value::Address { family, port } => Typed {
-            number: 0,
-            family: family.as_u8(),
-            port,
-            code: 0,
-            reserved: 0,
-            ip: ip,
-            start: 0,
-            size: 0,
-        },
-        Value::Code(error) => Typed {
-            number: 0,
-            family: 0,
-            port: 0,
-            code: error.code,
-            reserved: error.reserved,
-            ip: ip,
+    match read_typed::value_of(kind, value, TransactionId { bytes }) {
+        Ok(Value::Address(address)) => {
+            let ip = address.ip;
+            Typed {
+                family: address.family.as_u8(),
+                port: address.port,
+                ip,
+                ..NOTHING
+            }
+        }
+        Ok(Value::Code(ErrorCode { code, reserved })) => Typed {
+            code,
+            reserved,
             start: 4,
-            size: behind_code(value.len()),
+            size: value.len().saturating_sub(4),
+            ..NOTHING
         },
-        Value::Plain => Typed {
-            number: 0,
-            family: 0,
-            port: 0,
-            code: 0,
-            reserved: 0,
-            ip: ip,
-            start: 0,
+        Ok(Value::Plain) => Typed {
             size: value.len(),
+            ..NOTHING
         },
-        Value::Refused { number } => Typed {
-            number,
-            family: 0,
-            port: 0,
-            code: 0,
-            reserved: 0,
-            ip: ip,
-            start: 0,
-            size: 0,
-        },
+        Err(Refusal { number }) => Typed { number, ..NOTHING },
     }
 }
 
+// A number, 0 where nothing is refused: include/cratehoist.h has it so.
 pub fn cratehoist_refusal(kind: u16, value: &[u8]) -> u8
     ensures { result ≡ refusal rfc5389 kind value.now }
 {
@@ -122,32 +103,13 @@ pub fn cratehoist_append_address(buffer: &mut [u8], kind: u16, address: Address)
     ensures { (result ≡ told (answer buffer.old (refusal_of kind address) (attr_of buffer.old kind address)))
         × (buffer.new ≡ appended buffer.old (refusal_of kind address) (attr_of buffer.old kind address)) }
 {
-    let family = address.family;
-    let port = address.port;
-    let ip = address.ip;
-    if family == 1 {
-        return in_numbers(append_address(
-            buffer,
-            kind,
-            SocketAddr {
-                family: Family::Ipv4,
-                port: port,
-                ip: ip,
-            },
-        ));
-    }
-    if family == 2 {
-        return in_numbers(append_address(
-            buffer,
-            kind,
-            SocketAddr {
-                family: Family::Ipv6,
-                port: port,
-                ip: ip,
-            },
-        ));
-    }
-    in_numbers(append_value(buffer, 23, kind, b""))
+    let Address { family, port, ip } = address;
+    let family = match family {
+        1 => Family::Ipv4,
+        2 => Family::Ipv6,
+        _ => return in_numbers(append_value(buffer, Refusal::VALUE.number, kind, b"")),
+    };
+    in_numbers(append_address(buffer, kind, SocketAddr { family, port, ip }))
 }
 
 pub fn cratehoist_append_error_code(

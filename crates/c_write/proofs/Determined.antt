@@ -1,13 +1,12 @@
 -- The contracts of the calls determine their answers and the buffer.
-use Prim.Native.Nat.{ℕ}
-use mathlib.Core.List.{List}
-use mathlib.Core.Path.{ap₂}
+use Rattle.std.specs.Prelude.{ℕ, List, Result}
+use Rattle.std.proofs.Common.{ap₂}
 use Rattle.base.specs.DeterminedLaws.{by}
 use Rattle.base.specs.Determined.{Determines}
 use Rattle.write_raw.specs.Append.{attr, answer, appended}
 use Rattle.write_close.specs.Seal.{fingerprint, integrity}
 use Rattle.c_write.specs.Written.{told, begun_by, left_by}
-use Rattle.write_begin.specs.declared.Written as begin
+use Rattle.wire.specs.declared.refusal.Refusal.{Refusal}
 use Rattle.c_wire.specs.declared.Id.{Id}
 use Rattle.c_write.specs.declared.Written.{Written}
 use Rattle.c_write.proofs.in_numbers.Kinds as in_numbers_kinds_kinds
@@ -21,7 +20,7 @@ use Rattle.c_write.proofs.cratehoist_append_fingerprint.Reads as append_fingerpr
 use Rattle.c_write.proofs.cratehoist_append_message_integrity.Kinds as append_message_integrity_kinds_kinds
 use Rattle.c_write.proofs.cratehoist_append_message_integrity.Reads as append_message_integrity_reads
 
-pub determined-in_numbers : Determines in_numbers_kinds_kinds.ps in_numbers_kinds_kinds.r {I = begin.Written} {A = Written} in_numbers_reads.Asked in_numbers_reads.Learnt
+pub determined-in_numbers : Determines in_numbers_kinds_kinds.ps in_numbers_kinds_kinds.r {I = Result ℕ Refusal} {A = Written} in_numbers_reads.Asked in_numbers_reads.Learnt
     (λ κs a. a.0) (λ κs z e. z)
 determined-in_numbers =
     by in_numbers_kinds_kinds.ps in_numbers_kinds_kinds.r in_numbers_reads.Asked in_numbers_reads.Learnt _ _

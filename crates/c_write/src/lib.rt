@@ -8,10 +8,11 @@ ghost use Rattle.c_write.specs.Written.{told, begun_by, left_by};
 
 use c_wire::Id;
 use wire::method::Method;
+use wire::refusal::Refusal;
 use wire::transaction_id::TransactionId;
 use wire::types::class_numbered;
 
-// The message's size from now on, where `number` is 0.
+// The message's size from now on, where `number` is 0: a struct of include/cratehoist.h, since C has no `Result`.
 #[repr(C)]
 #[derive(Clone, Copy)]
 pub struct Written {
@@ -20,12 +21,12 @@ pub struct Written {
 }
 
 // An answer of the writer in numbers.
-pub fn in_numbers(w: write_begin::Written) -> Written
+pub fn in_numbers(w: Result<usize, Refusal>) -> Written
     ensures { result ≡ told w }
 {
     match w {
-        write_begin::Written::Total { size } => Written { number: 0, size },
-        write_begin::Written::Refused { number } => Written { number, size: 0 },
+        Ok(size) => Written { number: 0, size },
+        Err(Refusal { number }) => Written { number, size: 0 },
     }
 }
 
@@ -34,18 +35,14 @@ pub fn cratehoist_begin(buffer: &mut [u8], message_class: u16, method: u16, id: 
     ensures { (result ≡ begun_by buffer.old message_class method) × (buffer.new ≡ left_by buffer.old message_class method id) }
 {
     if 3 < message_class {
-        return Written {
-            number: 22,
-            size: 0,
-        };
+        return in_numbers(Err(Refusal::METHOD));
     }
-    let class = class_numbered(message_class);
     let bytes = id.bytes;
     in_numbers(write_begin::begin(
         buffer,
-        class,
+        class_numbered(message_class),
         Method { code: method },
-        TransactionId { bytes: bytes },
+        TransactionId { bytes },
     ))
 }
 

@@ -2,14 +2,14 @@ use Rattle.read_typed.specs.SaidLaws.{typed_one}
 use Rattle.c_typed.proofs.Sayings.{address, code, plain, faulty}
 use Rattle.c_typed.proofs.cratehoist_typed_value.Goals as goal
 
-pub returns-in-Address : goal.returns-in-Address
-returns-in-Address c = search (address, typed_one)
+pub returns-in-Ok-Address : goal.returns-in-Ok-Address
+returns-in-Ok-Address c = search (address, typed_one)
 
-pub returns-in-Code : goal.returns-in-Code
-returns-in-Code c = search (code, typed_one)
+pub returns-in-Ok-Code : goal.returns-in-Ok-Code
+returns-in-Ok-Code c = search (code, typed_one)
 
-pub returns-in-Plain : goal.returns-in-Plain
-returns-in-Plain c = search (plain, typed_one)
+pub returns-in-Ok-Plain : goal.returns-in-Ok-Plain
+returns-in-Ok-Plain c = search (plain, typed_one)
 
-pub returns-in-Refused : goal.returns-in-Refused
-returns-in-Refused c = search (faulty, typed_one)
+pub returns-in-Err : goal.returns-in-Err
+returns-in-Err c = search (faulty, typed_one)
