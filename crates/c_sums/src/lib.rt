@@ -9,7 +9,7 @@ ghost use Rattle.hmac.specs.Hmac.{hmac_of};
 ghost use Rattle.big_endian.specs.Numbers.{with_length};
 
 #[repr(C)]
-#[derive(Clone, Copy)]
+#[derive(Clone, Copy, Debug, PartialEq, Eq)]
 pub struct Digest {
     pub bytes: [u8; 20],
 }
@@ -29,20 +29,23 @@ pub fn cratehoist_is_utf8(bytes: &[u8]) -> bool
 pub fn cratehoist_sha1(bytes: &[u8]) -> Digest
     ensures { result.bytes ≡ sha1 bytes.now }
 {
-    let digest = sha1_digest::hash(bytes);
-    Digest { bytes: digest }
+    Digest {
+        bytes: sha1_digest::hash(bytes),
+    }
 }
 
 pub fn cratehoist_hmac(key: &[u8], bytes: &[u8]) -> Digest
     ensures { result.bytes ≡ hmac_of key.now bytes.now }
 {
-    let digest = hmac::hmac(key, bytes);
-    Digest { bytes: digest }
+    Digest {
+        bytes: hmac::hmac(key, bytes),
+    }
 }
 
 pub fn cratehoist_hmac_front(key: &[u8], datagram: &[u8], place: usize, length: u16) -> Digest
     ensures { result.bytes ≡ hmac_of key.now (with_length (take place datagram.now) length) }
 {
-    let digest = hmac::hmac_front(key, datagram, place, length);
-    Digest { bytes: digest }
+    Digest {
+        bytes: hmac::hmac_front(key, datagram, place, length),
+    }
 }

@@ -1,4 +1,3 @@
 pub mod Digit
-pub mod DigitLaws
 pub mod Number
 pub mod SaidLaws
