@@ -1,112 +1,76 @@
 // Hex text taken in piece by piece.
-use stun_io::parts::plus_u64;
 use stun_io::words::is_blank;
 
 // Where reading hex text stands: how many digits there were and the last of them, line and column, and whether the line
-// is a comment or a character was at fault.
+// is a comment.
 #[derive(Clone, Copy)]
 pub struct Reached {
     pub digits: u64,
     last: u8,
+    line: u64,
+    column: u64,
+    comment: bool,
+}
+
+// Where a character stands that is no digit.
+#[derive(Clone, Copy)]
+pub struct BadDigit {
     pub line: u64,
     pub column: u64,
-    comment: bool,
-    pub bad: bool,
 }
 
-// Before the first character.
-pub fn at_start() -> Reached {
-    Reached {
-        digits: 0,
-        last: 0,
-        line: 1,
-        column: 0,
-        comment: false,
-        bad: false,
-    }
-}
-
-fn along(g: Reached, comment: bool, bad: bool) -> Reached {
-    Reached {
-        digits: g.digits,
-        last: g.last,
-        line: g.line,
-        column: plus_u64(g.column, 1),
-        comment,
-        bad,
-    }
-}
-
-// A character that is no digit.
-fn passed(b: u8, g: Reached) -> Reached {
-    if b == 10 {
-        return Reached {
-            digits: g.digits,
-            last: g.last,
-            line: plus_u64(g.line, 1),
+impl Reached {
+    // Before the first character.
+    pub fn start() -> Reached {
+        Reached {
+            digits: 0,
+            last: 0,
+            line: 1,
             column: 0,
             comment: false,
-            bad: false,
-        };
-    }
-    if g.comment {
-        return along(g, true, false);
-    }
-    if is_blank(b) {
-        return along(g, false, false);
-    }
-    if b == 35 {
-        if g.column == 0 {
-            return along(g, true, false);
         }
     }
-    along(g, false, true)
-}
 
-// Every second digit makes a byte with the one before it, kept as long as there is room.
-fn keep(b: u8, g: Reached, raw: &mut [u8]) {
-    if g.digits % 2 == 0 {
-        return;
-    }
-    let digits = [g.last, b];
-    let mut byte = [0u8; 1];
-    hex_text::unhex(&digits, &mut byte);
-    buffers::put_bytes(raw, (g.digits / 2) as usize, &byte);
-}
-
-fn digit(b: u8, g: Reached, raw: &mut [u8]) -> Reached {
-    keep(b, g, raw);
-    Reached {
-        digits: plus_u64(g.digits, 1),
-        last: b,
-        line: g.line,
-        column: plus_u64(g.column, 1),
-        comment: false,
-        bad: false,
-    }
-}
-
-fn character(b: u8, g: Reached, raw: &mut [u8]) -> Reached {
-    if g.comment {
-        return passed(b, g);
-    }
-    let one = [b];
-    if digits::first_bad(&one) == 1 {
-        return digit(b, g, raw);
-    }
-    passed(b, g)
-}
-
-// More of the text; it stops at the first character that is at fault.
-pub fn gather(s: &[u8], g: Reached, raw: &mut [u8]) -> Reached {
-    let mut g = g;
-    let mut i = 0;
-    while i < s.len() {
-        g = character(s[i], g, raw);
-        if g.bad {
-            return g;
+    // Every second digit makes a byte with the one before it, kept as long as there is room.
+    fn digit(&mut self, b: u8, raw: &mut [u8]) {
+        if self.digits % 2 == 1 {
+            let mut byte = [0u8; 1];
+            let _ = hex_text::unhex(&[self.last, b], &mut byte);
+            buffers::put_bytes(raw, (self.digits / 2) as usize, &byte);
         }
-        i += 1;
+        self.last = b;
+        self.digits = self.digits.saturating_add(1);
     }
-    g
+
+    fn character(&mut self, b: u8, raw: &mut [u8]) -> Result<(), BadDigit> {
+        if b == b'\n' {
+            self.line = self.line.saturating_add(1);
+            self.column = 0;
+            self.comment = false;
+            return Ok(());
+        }
+        if b == b'#' && self.column == 0 {
+            self.comment = true;
+        }
+        self.column = self.column.saturating_add(1);
+        if self.comment || is_blank(b) {
+            return Ok(());
+        }
+        if !b.is_ascii_hexdigit() {
+            return Err(BadDigit {
+                line: self.line,
+                column: self.column,
+            });
+        }
+        self.digit(b, raw);
+        Ok(())
+    }
+
+    // More of the text; it stops at the first character that is at fault.
+    pub fn gather(&mut self, s: &[u8], raw: &mut [u8]) -> Result<(), BadDigit> {
+        for b in s {
+            self.character(*b, raw)?;
+        }
+        Ok(())
+    }
 }

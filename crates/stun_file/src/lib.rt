@@ -1,213 +1,151 @@
 // One datagram of a file or of standard input, as raw bytes or as hex text.
 #![tactic(auto)]
 
+ghost use Rattle.std.specs.Prelude.{◌≤◌, IfOk};
+
 mod hex_lines;
 
-use hex_lines::{Reached, at_start, gather};
+use hex_lines::{BadDigit, Reached};
 use std::fs::File;
-use std::io::Read;
-use stun_io::errors::{complain, complain_column, complain_number, unread};
-use stun_io::input::{Got, read_behind};
-use stun_io::parts::{first, part};
+use std::io::{Read, Write};
+use stun_io::complaints::fail;
+use stun_io::input::read_some;
+use stun_io::status::Told;
 use stun_io::words::is_blank;
 
 // As much as is read at a time.
 const FILE: usize = 65600;
 
-// A datagram: how many of its first bytes were kept, and how many there are in all. Or nothing, where it has been told why.
-#[derive(Drop)]
-pub enum Found {
-    Datagram { size: usize, total: u64 },
-    Nothing,
-}
-
-// How many bytes the buffer has, or that reading failed, which has been told.
-#[derive(Drop)]
-enum Filled {
-    Bytes(usize),
-    Failed,
-}
-
-// Reads until the buffer is full or the file ends.
-fn fill<R: Read>(rt: HostRuntime, source: &mut R, name: &[u8], file: &mut [u8; FILE]) -> Filled {
-    let mut have = 0;
-    let mut left = FILE;
-    while left > 0 && have < FILE {
-        let got = read_behind(rt, source, name, file, have);
-        match got {
-            Got::Upto(end) => have = end,
-            Got::End => return Filled::Bytes(have),
-            Got::Failed => return Filled::Failed,
-        }
-        left -= 1;
-    }
-    Filled::Bytes(have)
-}
-
-// Text has only characters that can be printed, and white ones: no message does, since the cookie's second byte is 18.
-fn is_text(s: &[u8]) -> bool {
-    let mut i = 0;
-    while i < s.len() {
-        let b = s[i];
-        if 126 < b {
-            return false;
-        }
-        if b < 32 {
-            if b != 10 {
-                if !is_blank(b) {
-                    return false;
-                }
-            }
-        }
-        i += 1;
-    }
-    true
-}
-
-// Begins to tell what is wrong with a file.
-fn wrong(rt: HostRuntime, name: &[u8]) {
-    complain(rt, b"stun: ");
-    complain(rt, name);
-}
-
-fn fault_at(rt: HostRuntime, name: &[u8], g: Reached) {
-    wrong(rt, name);
-    complain_number(rt, b": line ", g.line);
-    complain_column(rt, g.column);
-}
-
-fn fault_odd(rt: HostRuntime, name: &[u8]) {
-    wrong(rt, name);
-    complain(rt, b": an odd number of hex digits\n");
-}
-
-fn fault_name(rt: HostRuntime, name: &[u8]) {
-    wrong(rt, name);
-    complain(rt, b": the name is not UTF-8\n");
-}
-
-// As many bytes as there are, or as there is room for.
-fn of_size(total: u64, raw: &[u8]) -> Found {
-    let room = raw.len();
-    if (room as u64) < total {
-        return Found::Datagram { size: room, total };
-    }
-    Found::Datagram {
-        size: total as usize,
-        total,
-    }
-}
-
-fn of_digits(rt: HostRuntime, name: &[u8], digits: u64, raw: &[u8]) -> Found {
-    if digits % 2 != 0 {
-        fault_odd(rt, name);
-        return Found::Nothing;
-    }
-    of_size(digits / 2, raw)
-}
-
-// The text, of which so many bytes have been read.
-fn from_text<R: Read>(
-    rt: HostRuntime,
-    source: &mut R,
-    name: &[u8],
-    have: usize,
-    file: &mut [u8; FILE],
-    raw: &mut [u8],
-) -> Found {
-    let mut g = at_start();
-    let mut n = have;
-    let mut left = u64::MAX;
-    while left > 0 && 0 < n {
-        g = gather(part(file, 0, n), g, raw);
-        if g.bad {
-            fault_at(rt, name, g);
-            return Found::Nothing;
-        }
-        let Filled::Bytes(more) = fill(rt, source, name, file) else {
-            return Found::Nothing;
-        };
-        n = more;
-        left -= 1;
-    }
-    of_digits(rt, name, g.digits, raw)
-}
-
-// Of more bytes than there is room for the first are kept.
-fn from_raw(s: &[u8], raw: &mut [u8]) -> Found {
-    buffers::put_bytes(raw, 0, first(s, raw.len()));
-    of_size(s.len() as u64, raw)
+// A datagram's first bytes, as many as were kept, and how many there are in all.
+#[derive(Clone, Copy)]
+pub struct Found<'a> {
+    pub bytes: &'a [u8],
+    pub total: u64,
 }
 
 // How the bytes of a file are to be taken; where nothing is said they tell it themselves.
-#[derive(Drop)]
+#[derive(Clone, Copy)]
 pub enum Form {
-    Told,
     Hex,
     Raw,
 }
 
-fn as_text(form: Form, s: &[u8]) -> bool {
-    match form {
-        Form::Told => is_text(s),
-        Form::Hex => true,
-        Form::Raw => false,
-    }
+// Text has only characters that can be printed, and white ones: no message does, since the cookie's second byte is 18.
+fn is_text(s: &[u8]) -> bool {
+    s.iter()
+        .all(|b| matches!(b, b' '..=b'~' | b'\n') || is_blank(*b))
 }
 
-// Text where the form says so.
-fn by_form<R: Read>(
+// Of more bytes than there is room for the first are kept.
+fn keep(s: &[u8], raw: &mut [u8]) -> u64 {
+    let n = s.len().min(raw.len());
+    raw[..n].copy_from_slice(&s[..n]);
+    s.len() as u64
+}
+
+// What is read, and what it is called where it is at fault.
+#[derive(Drop)]
+struct Source<'a, R> {
     rt: HostRuntime,
-    source: &mut R,
-    name: &[u8],
-    form: Form,
-    have: usize,
-    file: &mut [u8; FILE],
-    raw: &mut [u8],
-) -> Found {
-    if as_text(form, part(file, 0, have)) {
-        return from_text(rt, source, name, have, file, raw);
-    }
-    from_raw(part(file, 0, have), raw)
+    reader: R,
+    name: &'a str,
 }
 
-// The datagram of an open file: its first bytes, as many as raw has room for. Above 65,555 bytes the first 65,556 are
-// answered as all are.
-fn taken<R: Read>(
-    rt: HostRuntime,
-    source: &mut R,
-    name: &[u8],
-    form: Form,
-    raw: &mut [u8],
-) -> Found {
-    let mut file = [0u8; FILE];
-    let Filled::Bytes(have) = fill(rt, source, name, &mut file) else {
-        return Found::Nothing;
-    };
-    by_form(rt, source, name, form, have, &mut file, raw)
-}
-
-// The datagram of the file that a path names.
-fn of_file(rt: HostRuntime, path: &str, form: Form, raw: &mut [u8]) -> Found {
-    match File::open(&rt, path) {
-        Ok(mut file) => taken(rt, &mut file, path.as_bytes(), form, raw),
-        Err(error) => {
-            unread(rt, path.as_bytes(), error);
-            Found::Nothing
+impl<'a, R: Read> Source<'a, R> {
+    // Reads until the buffer is full or the file ends, and answers how many bytes there are.
+    fn fill(&mut self, file: &mut [u8; FILE]) -> Result<usize, Told>
+        ensures { IfOk result (λ n. n ≤ 65600) }
+    {
+        let mut have = 0;
+        while have < FILE {
+            let n = read_some(self.rt, &mut self.reader, self.name, &mut file[have..])?;
+            if n == 0 {
+                break;
+            }
+            have += n;
         }
+        Ok(have)
+    }
+
+    fn bad_digit(&self, at: BadDigit) -> Told {
+        let name = self.name;
+        let BadDigit { line, column } = at;
+        let _ = eprintln!(self.rt; "stun: {name}: line {line}, column {column}: not a hex digit");
+        Told
+    }
+
+    fn odd(&self) -> Told {
+        let name = self.name;
+        let _ = eprintln!(self.rt; "stun: {name}: an odd number of hex digits");
+        Told
+    }
+
+    // The text, of which so many bytes have been read; answers how many bytes it spells.
+    fn text(&mut self, have: usize, file: &mut [u8; FILE], raw: &mut [u8]) -> Result<u64, Told>
+        requires { have ≤ 65600 }
+    {
+        let mut reached = Reached::start();
+        let mut n = have;
+        for _ in 0..u64::MAX {
+            if n == 0 {
+                break;
+            }
+            if let Err(at) = reached.gather(&file[..n], raw) {
+                return Err(self.bad_digit(at));
+            }
+            n = self.fill(file)?;
+        }
+        if reached.digits % 2 != 0 {
+            return Err(self.odd());
+        }
+        Ok(reached.digits / 2)
+    }
+
+    // Above 65,555 bytes the first 65,556 are answered as all are.
+    fn datagram<'b>(&mut self, form: Option<Form>, raw: &'b mut [u8]) -> Result<Found<'b>, Told> {
+        let mut file = [0u8; FILE];
+        let have = self.fill(&mut file)?;
+        let text = match form {
+            None => is_text(&file[..have]),
+            Some(Form::Hex) => true,
+            Some(Form::Raw) => false,
+        };
+        let total = if text {
+            self.text(have, &mut file, raw)?
+        } else {
+            keep(&file[..have], raw)
+        };
+        let size = raw.len().min(total as usize);
+        Ok(Found {
+            bytes: &raw[..size],
+            total,
+        })
     }
 }
 
-// The same, `-` for standard input. The library names files in UTF-8 alone.
-pub fn datagram(rt: HostRuntime, path: &[u8], form: Form, raw: &mut [u8]) -> Found {
+// The datagram of the file that a path names, `-` for standard input: its first bytes, as many as raw has room for. The library
+// names files in UTF-8 alone.
+pub fn datagram<'a>(
+    rt: HostRuntime,
+    path: &[u8],
+    form: Option<Form>,
+    raw: &'a mut [u8],
+) -> Result<Found<'a>, Told> {
     if let b"-" = path {
-        return taken(rt, &mut rt.stdin(), b"standard input", form, raw);
+        let mut source = Source {
+            rt,
+            reader: rt.stdin(),
+            name: "standard input",
+        };
+        return source.datagram(form, raw);
     }
-    match std::str::from_utf8(path) {
-        Ok(path) => of_file(rt, path, form, raw),
-        Err(_) => {
-            fault_name(rt, path);
-            Found::Nothing
-        }
-    }
+    let Ok(name) = std::str::from_utf8(path) else {
+        let _ = eprint!(rt; "stun: ");
+        let _ = rt.stderr().write_all(path);
+        let _ = eprintln!(rt; ": the name is not UTF-8");
+        return Err(Told);
+    };
+    let reader = File::open(&rt, name).map_err(|error| fail(rt, name, &error))?;
+    let mut source = Source { rt, reader, name };
+    source.datagram(form, raw)
 }

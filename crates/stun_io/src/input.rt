@@ -1,36 +1,21 @@
 // Bytes that are read.
-use crate::errors::unread;
-use crate::parts::plus;
+ghost use Rattle.std.specs.Prelude.{◌≤◌, length, IfOk};
+
+use crate::complaints::fail;
+use crate::status::Told;
 use std::io::Read;
 
 // A datagram above 65,555 bytes is answered by its header and by being too long, so its first 65,556 bytes do.
 pub const MOST: usize = 65556;
 
-// What reading came to: where the bytes end now, that there are no more, or that it failed, which has been told.
-#[derive(Drop)]
-pub enum Got {
-    Upto(usize),
-    End,
-    Failed,
-}
-
-// Reads once behind what is there.
-pub fn read_behind<R: Read>(
+// Reads once, and answers how many bytes that gave: none at the end.
+pub fn read_some<R: Read>(
     rt: HostRuntime,
     source: &mut R,
-    name: &[u8],
-    input: &mut [u8],
-    have: usize,
-) -> Got {
-    if input.len() < have {
-        return Got::End;
-    }
-    match source.read(&mut input[have..]) {
-        Ok(0) => Got::End,
-        Ok(n) => Got::Upto(plus(have, n)),
-        Err(error) => {
-            unread(rt, name, error);
-            Got::Failed
-        }
-    }
+    name: &str,
+    room: &mut [u8],
+) -> Result<usize, Told>
+    ensures { IfOk result (λ n. n ≤ length room.old) }
+{
+    source.read(room).map_err(|error| fail(rt, name, &error))
 }

@@ -1,9 +1,9 @@
-// What the commands of the program share: parts of slices, words, bytes read, standard output and standard error.
+// What the commands of the program share: words, bytes read, standard output, standard error, and what the program ends with.
 #![tactic(auto)]
 
-pub mod buffered;
-pub mod errors;
+pub mod complaints;
 pub mod input;
-pub mod parts;
-pub mod unbuffered;
+pub mod output;
+pub mod status;
+pub mod walk;
 pub mod words;

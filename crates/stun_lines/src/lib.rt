@@ -1,327 +1,229 @@
 // stun lines: a line of hex a datagram, a line of answer each.
 #![tactic(auto)]
 
+ghost use Rattle.std.specs.Prelude.{◌≤◌, ◌<◌, length, IfSome};
+
 pub mod answers;
 mod progress;
 
 use answers::{Job, answer};
-use hex_text::HexFault;
-use stun_io::buffered::{Output, ROOM};
-use stun_io::errors::{complain, complain_column, complain_number};
-use stun_io::input::{Got, MOST, read_behind};
-use stun_io::parts::{between, find, first, move_down, part, plus, plus_u64};
+use hex_text::Hex;
+use progress::Watch;
+use stun_io::complaints::is_heard;
+use stun_io::input::{MOST, read_some};
+use stun_io::output::Output;
+use stun_io::status::{Status, Told};
 use stun_io::words::is_comment;
 
 // As much of the input as is kept: more than the digits of a datagram's first bytes.
 const INPUT: usize = 131328;
 
-// Where reading stands: how much of the input is kept, where its next line starts, and how many lines are past and were
-// answered. Of a line that is longer than the input buffer, how many characters are past (0: there is no such line), the
-// column of the first that is no digit (0: none so far), and whether that one is a carriage return. Last, how the output
-// stands.
+// The column of a character that is no digit, and whether it is a carriage return.
 #[derive(Clone, Copy)]
-struct State {
-    go: bool,
-    have: usize,
-    from: usize,
+struct Bad {
+    column: u64,
+    cr: bool,
+}
+
+// Of a line that is longer than the input buffer: how many characters are past, and the first that is no digit.
+#[derive(Clone, Copy)]
+struct Long {
+    seen: u64,
+    bad: Option<Bad>,
+}
+
+impl Long {
+    // More of the line.
+    fn more(&mut self, s: &[u8]) {
+        if self.bad.is_none() {
+            let at = digits::first_bad(s);
+            if let Some(b) = s.get(at) {
+                self.bad = Some(Bad {
+                    column: self.seen.saturating_add(at as u64).saturating_add(1),
+                    cr: *b == b'\r',
+                });
+            }
+        }
+        self.seen = self.seen.saturating_add(s.len() as u64);
+    }
+}
+
+// How many lines are past and were answered, the long line that is under way, and the first bytes of a datagram.
+#[derive(Drop)]
+struct Lines<'a> {
+    rt: HostRuntime,
+    job: Job<'a>,
+    out: Output,
     line: u64,
     done: u64,
-    seen: u64,
-    bad: u64,
-    cr: bool,
-    out: Output,
+    long: Option<Long>,
+    raw: [u8; MOST],
 }
 
-// The answer to a line that is no hex: by the column of the first character that is no digit, or 0 where the digits are an
-// odd number.
-fn bad_line(line: u64, column: u64, o: Output, buf: &mut [u8; ROOM]) -> Output {
-    if o.broken() {
-        return o;
+impl<'a> Lines<'a> {
+    // The line's datagram has so many bytes, of which the first are there.
+    fn answer(&mut self, size: usize) {
+        answer(&mut self.out, &self.raw[..size.min(MOST)], self.job);
     }
-    let numbered = complain_number(o.rt(), b"stun: line ", line);
-    let told = if column == 0 {
-        complain(o.rt(), b": an odd number of hex digits\n")
-    } else {
-        complain_column(o.rt(), column)
-    };
-    if numbered && told {
-        return o.faulty().put(buf, b"?\n");
-    }
-    o.unheard()
-}
 
-// A line's size without the carriage return of a line end of two characters.
-fn without_return(s: &[u8]) -> usize {
-    if s.len() == 0 {
-        return 0;
-    }
-    let last = s.len() - 1;
-    if s[last] == 13 {
-        return last;
-    }
-    s.len()
-}
-
-// One line, without its end.
-fn one(
-    s: &[u8],
-    line: u64,
-    job: Job,
-    key: &[u8],
-    raw: &mut [u8; MOST],
-    o: Output,
-    buf: &mut [u8; ROOM],
-) -> Output {
-    let h = hex_text::unhex(part(s, 0, without_return(s)), raw);
-    match h {
-        Ok(size) => answer(first(raw, size), job, key, o, buf),
-        Err(HexFault::Bad(p)) => bad_line(line, plus_u64(p as u64, 1), o, buf),
-        Err(HexFault::Odd) => bad_line(line, 0, o, buf),
-    }
-}
-
-// More of a long line.
-fn more(c: State, s: &[u8]) -> State {
-    let mut c = c;
-    if c.bad == 0 {
-        let b = digits::first_bad(s);
-        if b < s.len() {
-            c.bad = plus_u64(plus_u64(c.seen, b as u64), 1);
-            c.cr = s[b] == 13;
+    // The line is no hex: a character is no digit, or where there is none, the digits are an odd number.
+    fn no_hex(&mut self, column: Option<u64>) {
+        if self.out.broken() {
+            return;
+        }
+        let line = self.line;
+        let said = match column {
+            Some(column) => eprintln!(self.rt;
+                "stun: line {line}, column {column}: not a hex digit"
+            ),
+            None => eprintln!(self.rt; "stun: line {line}: an odd number of hex digits"),
+        };
+        if is_heard(said) {
+            self.out.note(Status::Fault);
+            self.out.put(b"?\n");
+        } else {
+            self.out.unheard();
         }
     }
-    c.seen = plus_u64(c.seen, s.len() as u64);
-    c
-}
 
-fn end_digits(
-    digits: u64,
-    line: u64,
-    job: Job,
-    key: &[u8],
-    raw: &[u8],
-    o: Output,
-    buf: &mut [u8; ROOM],
-) -> Output {
-    if digits % 2 != 0 {
-        return bad_line(line, 0, o, buf);
-    }
-    answer(raw, job, key, o, buf)
-}
-
-// Where a carriage return is all that is bad, and the last character, it is of the line's end.
-fn end_long(c: State, line: u64, job: Job, key: &[u8], raw: &[u8], buf: &mut [u8; ROOM]) -> Output {
-    let o = c.out;
-    let bad = c.bad;
-    if bad == 0 {
-        return end_digits(c.seen, line, job, key, raw, o, buf);
-    }
-    if c.cr {
-        if bad == c.seen {
-            return end_digits(bad - 1, line, job, key, raw, o, buf);
+    // One line, without its end, which may be of two characters.
+    fn one(&mut self, s: &[u8]) {
+        let s = s.strip_suffix(b"\r").unwrap_or(s);
+        match hex_text::unhex(s, &mut self.raw) {
+            Hex::Bytes(size) => self.answer(size),
+            Hex::Bad(p) => self.no_hex(Some((p as u64).saturating_add(1))),
+            Hex::Odd => self.no_hex(None),
         }
     }
-    bad_line(line, bad, o, buf)
-}
 
-// A line has ended, and the next one starts at a place.
-fn past(c: State, from: usize, done: u64, out: Output) -> State {
-    State {
-        go: true,
-        have: 0,
-        from,
-        line: plus_u64(c.line, 1),
-        done,
-        seen: 0,
-        bad: 0,
-        cr: false,
-        out,
-    }
-}
-
-// The end of a line, or all of it where it isn't long.
-fn ended(
-    t: &[u8],
-    c: State,
-    from: usize,
-    job: Job,
-    key: &[u8],
-    raw: &mut [u8; MOST],
-    buf: &mut [u8; ROOM],
-) -> State {
-    let o = c.out;
-    let line = plus_u64(c.line, 1);
-    let done = plus_u64(c.done, 1);
-    if c.seen > 0 {
-        let o = end_long(more(c, t), line, job, key, raw, buf);
-        return past(c, from, done, o);
-    }
-    if is_comment(t) {
-        return past(c, from, c.done, o);
-    }
-    let o = one(t, line, job, key, raw, o, buf);
-    past(c, from, done, o)
-}
-
-// The lines that end in s.
-fn lines(
-    s: &[u8],
-    c: State,
-    job: Job,
-    key: &[u8],
-    raw: &mut [u8; MOST],
-    buf: &mut [u8; ROOM],
-) -> State {
-    let mut c = c;
-    let mut left = s.len();
-    while left > 0 {
-        let from = c.from;
-        let rest = between(s, from, s.len());
-        let size = find(rest, 0, 10);
-        if rest.len() <= size {
-            return c;
-        }
-        c = ended(
-            part(rest, 0, size),
-            c,
-            plus(plus(from, size), 1),
-            job,
-            key,
-            raw,
-            buf,
-        );
-        left -= 1;
-    }
-    c
-}
-
-// The input buffer is full and has no line end. Of a remark its sign is enough; a long line's first bytes go to raw, and
-// nothing else of it is kept but what it comes to.
-fn full(c: State, s: &[u8], raw: &mut [u8; MOST]) -> State {
-    let mut c = c;
-    if c.seen == 0 {
-        if is_comment(s) {
-            c.have = 1;
-            return c;
-        }
-        hex_text::unhex(first(s, MOST * 2), raw);
-    }
-    c.have = 0;
-    more(c, s)
-}
-
-// The buffer has bytes up to an end: whole lines are answered, and the rest moves to the front.
-fn filled(
-    c: State,
-    input: &mut [u8; INPUT],
-    end: usize,
-    job: Job,
-    key: &[u8],
-    raw: &mut [u8; MOST],
-    buf: &mut [u8; ROOM],
-) -> State {
-    let mut c = lines(part(input, 0, end), c, job, key, raw, buf);
-    let have = move_down(input, c.from, end);
-    c.have = have;
-    c.from = 0;
-    if have < INPUT {
-        return c;
-    }
-    full(c, input, raw)
-}
-
-// The input has ended: the last line gets the line end that it has not.
-fn last(
-    c: State,
-    input: &mut [u8; INPUT],
-    job: Job,
-    key: &[u8],
-    raw: &mut [u8; MOST],
-    buf: &mut [u8; ROOM],
-) -> State {
-    let have = c.have;
-    if have < INPUT {
-        if have > 0 || c.seen > 0 {
-            input[have] = 10;
-            return stopped(filled(c, input, have + 1, job, key, raw, buf));
+    // Where a carriage return is all that is bad, and the last character, it is of the line's end.
+    fn one_long(&mut self, line: Long) {
+        let digits = match line.bad {
+            None => line.seen,
+            Some(bad) if bad.cr && bad.column == line.seen => line.seen.saturating_sub(1),
+            Some(bad) => {
+                self.no_hex(Some(bad.column));
+                return;
+            }
+        };
+        if digits % 2 == 0 {
+            self.answer(MOST);
+        } else {
+            self.no_hex(None);
         }
     }
-    stopped(c)
-}
 
-fn stopped(c: State) -> State {
-    let mut c = c;
-    c.go = false;
-    c
-}
-
-// No more can be read.
-fn failed(c: State) -> State {
-    let mut c = stopped(c);
-    c.out = c.out.unread();
-    c
-}
-
-// Reads once.
-fn turn(
-    c: State,
-    input: &mut [u8; INPUT],
-    job: Job,
-    key: &[u8],
-    raw: &mut [u8; MOST],
-    buf: &mut [u8; ROOM],
-) -> State {
-    let rt = c.out.rt();
-    let got = read_behind(rt, &mut rt.stdin(), b"standard input", input, c.have);
-    match got {
-        Got::Upto(end) => filled(c, input, end, job, key, raw, buf),
-        Got::End => last(c, input, job, key, raw, buf),
-        Got::Failed => failed(c),
+    // The end of a line, or all of it where it isn't long.
+    fn ended(&mut self, s: &[u8]) {
+        self.line = self.line.saturating_add(1);
+        if let Some(mut long) = self.long.take() {
+            long.more(s);
+            self.one_long(long);
+        } else if is_comment(s) {
+            return;
+        } else {
+            self.one(s);
+        }
+        self.done = self.done.saturating_add(1);
     }
-}
 
-fn goes_on(c: State) -> bool {
-    c.go && !c.out.failed()
+    // The lines that end in s; answers how much of it they take.
+    fn whole(&mut self, s: &[u8]) -> usize
+        ensures { result ≤ length s.now }
+    {
+        let mut rest = s;
+        while let Some(size) = rest.iter().position(|b| *b == b'\n') {
+            self.ended(&rest[..size]);
+            rest = &rest[size + 1..];
+        }
+        s.len() - rest.len()
+    }
+
+    // The input buffer is full and has no line end; answers how much of it is kept. Of a remark its sign is enough; a long line's
+    // first bytes go to raw, and nothing else of it is kept but what it comes to.
+    fn full(&mut self, s: &[u8]) -> usize
+        ensures { result ≤ 1 }
+    {
+        if self.long.is_none() {
+            if is_comment(s) {
+                return 1;
+            }
+            let _ = hex_text::unhex(&s[..s.len().min(2 * MOST)], &mut self.raw);
+        }
+        let mut long = self.long.unwrap_or(Long { seen: 0, bad: None });
+        long.more(s);
+        self.long = Some(long);
+        0
+    }
+
+    // The buffer has bytes up to an end: whole lines are answered, and the rest moves to the front; answers how much that is.
+    fn filled(&mut self, input: &mut [u8; INPUT], end: usize) -> usize
+        requires { end ≤ 131328 }
+        ensures { result < 131328 }
+    {
+        let past = self.whole(&input[..end]);
+        input.copy_within(past..end, 0);
+        let have = end - past;
+        if have < INPUT {
+            return have;
+        }
+        self.full(input)
+    }
+
+    // Reads once behind what is kept; answers how much is kept then, or nothing where no more comes. Where the input has ended, the
+    // last line gets the line end that it has not.
+    fn turn(&mut self, input: &mut [u8; INPUT], have: usize) -> Option<usize>
+        requires { have < 131328 }
+        ensures { IfSome result (λ n. n < 131328) }
+    {
+        let mut stdin = self.rt.stdin();
+        match read_some(self.rt, &mut stdin, "standard input", &mut input[have..]) {
+            Ok(0) => {
+                if have > 0 || self.long.is_some() {
+                    input[have] = b'\n';
+                    self.filled(input, have + 1);
+                }
+                None
+            }
+            Ok(n) => Some(self.filled(input, have + n)),
+            Err(Told) => {
+                self.out.note(Status::Trouble);
+                None
+            }
+        }
+    }
 }
 
 // All of standard input, as long as the answers can be written; answers what to end with.
-fn all(
-    rt: HostRuntime,
-    job: Job,
-    key: &[u8],
-    input: &mut [u8; INPUT],
-    raw: &mut [u8; MOST],
-    buf: &mut [u8; ROOM],
-) -> u8 {
-    let mut w = progress::begin(rt);
-    let mut c = State {
-        go: true,
-        have: 0,
-        from: 0,
+pub fn run(rt: HostRuntime, job: Job<'_>) -> Status {
+    let mut input = [0u8; INPUT];
+    let mut watch = Watch::begin(rt);
+    let mut lines = Lines {
+        rt,
+        job,
+        out: Output::new(rt),
         line: 0,
         done: 0,
-        seen: 0,
-        bad: 0,
-        cr: false,
-        out: Output::new(rt),
+        long: None,
+        raw: [0; MOST],
     };
-    let mut left = u64::MAX;
-    while left > 0 && goes_on(c) {
-        c = turn(c, input, job, key, raw, buf);
-        if !c.out.broken() {
-            w = progress::tick(rt, w, c.done);
+    let mut have = 0;
+    for _ in 0..u64::MAX {
+        let kept = lines.turn(&mut input, have);
+        if let Some(watch) = &mut watch {
+            if !lines.out.broken() {
+                watch.tick(lines.done);
+            }
         }
-        left -= 1;
+        match kept {
+            Some(n) if !lines.out.failed() => have = n,
+            _ => break,
+        }
     }
-    if !c.out.broken() {
-        progress::end(rt, w, c.done);
+    if let Some(watch) = &watch {
+        if !lines.out.broken() {
+            watch.end(lines.done);
+        }
     }
-    c.out.finish(buf)
-}
-
-pub fn run(rt: HostRuntime, job: Job, key: &[u8]) -> u8 {
-    let mut input = [0u8; INPUT];
-    let mut raw = [0u8; MOST];
-    let mut buf = [0u8; ROOM];
-    all(rt, job, key, &mut input, &mut raw, &mut buf)
+    lines.out.finish()
 }

@@ -1,14 +1,13 @@
 // How far long work is: on a terminal's standard error, once a second, where the answers go elsewhere.
 use std::io::IsTerminal;
 use std::time::{SystemTime, UNIX_EPOCH};
-use stun_io::errors::{complain, complain_number};
 
 // The second of the last report, and how many lines were done then.
 #[derive(Clone, Copy)]
 pub struct Watch {
-    pub on: bool,
-    pub second: u64,
-    pub done: u64,
+    rt: HostRuntime,
+    second: u64,
+    done: u64,
 }
 
 // By the system's clock; nought where it tells no time.
@@ -22,55 +21,28 @@ fn second(rt: HostRuntime) -> u64 {
     }
 }
 
-pub fn begin(rt: HostRuntime) -> Watch {
-    if rt.stderr().is_terminal() {
-        if !rt.stdout().is_terminal() {
-            return Watch {
-                on: true,
-                second: second(rt),
-                done: 0,
-            };
+impl Watch {
+    // Where somebody is to be told.
+    pub fn begin(rt: HostRuntime) -> Option<Watch> {
+        let wanted = rt.stderr().is_terminal() && !rt.stdout().is_terminal();
+        wanted.then(|| Watch {
+            rt,
+            second: second(rt),
+            done: 0,
+        })
+    }
+
+    pub fn tick(&mut self, done: u64) {
+        let now = second(self.rt);
+        if now != self.second {
+            let more = done.saturating_sub(self.done);
+            let _ = eprint!(self.rt; "\r{done} lines, {more} in the last second ");
+            self.second = now;
+            self.done = done;
         }
     }
-    Watch {
-        on: false,
-        second: 0,
-        done: 0,
-    }
-}
 
-fn tell(rt: HostRuntime, done: u64, more: u64) {
-    complain_number(rt, b"\r", done);
-    complain_number(rt, b" lines, ", more);
-    complain(rt, b" in the last second ");
-}
-
-fn since(then: u64, now: u64) -> u64 {
-    if now < then {
-        return 0;
-    }
-    now - then
-}
-
-pub fn tick(rt: HostRuntime, w: Watch, done: u64) -> Watch {
-    if w.on {
-        let now = second(rt);
-        if now == w.second {
-            return w;
-        }
-        tell(rt, done, since(w.done, done));
-        return Watch {
-            on: true,
-            second: now,
-            done,
-        };
-    }
-    w
-}
-
-pub fn end(rt: HostRuntime, w: Watch, done: u64) {
-    if w.on {
-        complain_number(rt, b"\r", done);
-        complain(rt, b" lines, done                    \n");
+    pub fn end(&self, done: u64) {
+        let _ = eprintln!(self.rt; "\r{done} lines, done                    ");
     }
 }

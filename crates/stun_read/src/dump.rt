@@ -1,76 +1,40 @@
 // A hex dump with some bytes marked: in brackets, and in red where there are colours.
-use crate::page::{bad, column};
+use crate::page::Page;
 use display::Span;
-use stun_io::parts::{minus, part, plus};
-use stun_io::unbuffered::Page;
 
 fn is_marked(mark: Span, i: usize) -> bool {
-    if i < mark.at {
-        return false;
-    }
-    i - mark.at < mark.size
+    mark.at <= i && i - mark.at < mark.size
 }
 
-// What stands before a byte: a bracket where marked ones begin or end.
-fn between(page: &mut Page, before: bool, after: bool, colour: bool) {
-    if before == after {
-        page.sign(b' ');
-        return;
-    }
-    if after {
-        bad(page, colour, b"[");
-        return;
-    }
-    bad(page, colour, b"]");
-}
-
-fn cell(page: &mut Page, b: u8, marked: bool, colour: bool) {
-    let mut digits = [0u8; 16];
-    let k = io::hex(b as u64, 2, &mut digits);
-    if marked {
-        bad(page, colour, &digits[..k]);
-        return;
-    }
-    page.print(&digits[..k]);
-}
-
-// The bytes of a row, which starts at a place.
-fn cells(page: &mut Page, s: &[u8], at: usize, mark: Span, colour: bool) {
+// A row behind a line end: its place and up to sixteen bytes, with a bracket where marked ones begin or end.
+fn row(page: &mut Page, at: usize, s: &[u8], mark: Span) {
+    write!(page, "\n{at:5} ");
     let mut before = false;
-    let mut i = 0;
-    while i < s.len() {
-        let now = is_marked(mark, plus(at, i));
-        between(page, before, now, colour);
-        cell(page, s[i], now, colour);
+    for (i, b) in s.iter().enumerate() {
+        let now = is_marked(mark, at.saturating_add(i));
+        match (before, now) {
+            (false, true) => page.bad("["),
+            (true, false) => page.bad("]"),
+            _ => page.print(b" "),
+        }
+        if now {
+            page.bad(format_args!("{b:02x}"));
+        } else {
+            write!(page, "{b:02x}");
+        }
         before = now;
-        i += 1;
     }
     if before {
-        bad(page, colour, b"]");
+        page.bad("]");
     }
-}
-
-// A row behind a line end: sixteen bytes from a place on, or as many as there are.
-fn row(page: &mut Page, d: &[u8], at: usize, mark: Span, colour: bool) {
-    page.sign(b'\n');
-    column(page, at, 5);
-    page.sign(b' ');
-    let left = minus(d.len(), at);
-    if left < 16 {
-        cells(page, part(d, at, left), at, mark, colour);
-        return;
-    }
-    cells(page, part(d, at, 16), at, mark, colour);
 }
 
 // The rows with marked bytes, with up to two before and two behind them.
-pub fn rows(page: &mut Page, d: &[u8], mark: Span, colour: bool) {
-    let last = plus(mark.at, minus(mark.size, 1)) / 16;
-    let mut at = minus(mark.at - mark.at % 16, 32);
-    let mut left = minus(last + 3, at / 16);
-    while left > 0 && at < d.len() {
-        row(page, d, at, mark, colour);
-        at = plus(at, 16);
-        left -= 1;
+pub fn rows(page: &mut Page, d: &[u8], mark: Span) {
+    let first = (mark.at / 16).saturating_sub(2);
+    let last = mark.at.saturating_add(mark.size.saturating_sub(1)) / 16;
+    let count = (last + 3).saturating_sub(first);
+    for (i, s) in d.chunks(16).enumerate().skip(first).take(count) {
+        row(page, i.saturating_mul(16), s, mark);
     }
 }

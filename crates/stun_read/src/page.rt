@@ -1,46 +1,104 @@
-// Names, columns and colours.
-use stun_io::parts::{minus, part};
-use stun_io::unbuffered::Page;
+// Standard output piece by piece, for a person, with names and colours.
+use names::Name;
+use std::fmt::{self, Display};
+use std::io::{IsTerminal, Result, Write};
+use stun_io::complaints::unwritten;
+use stun_io::output::Hex;
+use stun_io::status::Status;
 
-pub fn named(page: &mut Page, name: &str) {
-    page.print(name.as_bytes());
+// Are there colours? And what a write that failed makes the program end with.
+#[derive(Drop)]
+pub struct Page {
+    rt: HostRuntime,
+    colour: bool,
+    failure: Option<Status>,
 }
 
-// So many blanks, up to 20.
-pub fn blanks(page: &mut Page, n: usize) {
-    page.print(part(b"                    ", 0, n));
+impl Page {
+    // Of which nothing was said yet.
+    pub fn new(rt: HostRuntime) -> Page {
+        Page {
+            rt,
+            colour: rt.stdout().is_terminal(),
+            failure: None,
+        }
+    }
+
+    fn noted(&mut self, said: Result<()>) {
+        if let Err(error) = said {
+            self.failure = Some(Status::from(&error));
+        }
+    }
+
+    pub fn print(&mut self, s: &[u8]) {
+        let said = self.rt.stdout().write_all(s);
+        self.noted(said);
+    }
+
+    // What `write!` calls: it answers nothing, since a write that fails is noted here.
+    pub fn write_fmt(&mut self, text: impl Display + Drop) {
+        let said = self.rt.stdout().write_fmt(text);
+        self.noted(said);
+    }
+
+    // Bytes in hex, and a dash for none.
+    pub fn hex(&mut self, s: &[u8]) {
+        if s.is_empty() {
+            write!(self, "-");
+        } else {
+            write!(self, "{}", Hex(s));
+        }
+    }
+
+    // Words in a colour where there are colours.
+    fn painted(&mut self, colour: &str, words: impl Display + Drop) {
+        if self.colour {
+            write!(self, "\x1b[{colour}m{words}\x1b[0m");
+        } else {
+            write!(self, "{words}");
+        }
+    }
+
+    pub fn good(&mut self, words: impl Display + Drop) {
+        self.painted("32", words);
+    }
+
+    pub fn bad(&mut self, words: impl Display + Drop) {
+        self.painted("1;31", words);
+    }
+
+    // The end of the last line: where it can't be written, it tells why.
+    pub fn end(&mut self) {
+        if let Err(error) = self.rt.stdout().write_all(b"\n") {
+            self.failure = Some(unwritten(self.rt, &error));
+        }
+    }
+
+    // What the program is to end with, where the answer makes it end with n.
+    pub fn status(&self, n: u8) -> Status {
+        let found = if n == 0 { Status::Good } else { Status::Fault };
+        self.failure.unwrap_or(found)
+    }
 }
 
-// A number at the right of a column.
-pub fn column(page: &mut Page, n: usize, width: usize) {
-    let mut digits = [0u8; 20];
-    let k = io::decimal(n as u64, &mut digits);
-    blanks(page, minus(width, k));
-    page.print(&digits[..k]);
+// A name's letters.
+#[derive(Clone, Copy)]
+pub struct Named(pub Name);
+
+impl Display for Named {
+    fn fmt<W: fmt::Write>(&self, f: &mut fmt::Formatter<W>) -> fmt::Result {
+        let letters = self.0.text.get(..self.0.size).unwrap_or_default();
+        f.pad(std::str::from_utf8(letters).unwrap_or_default())
+    }
 }
 
 // A number of docs/NUMBERS.md and what it is called there.
-pub fn number(page: &mut Page, n: u8) {
-    page.decimal(n as u64);
-    page.print(b", ");
-    named(page, names::number(n));
-}
+#[derive(Clone, Copy)]
+pub struct Number(pub u8);
 
-// Words in a colour where there are colours.
-fn painted(page: &mut Page, colour: bool, code: &[u8], words: &[u8]) {
-    if colour {
-        page.print(code);
-        page.print(words);
-        page.print(b"\x1b[0m");
-        return;
+impl Display for Number {
+    fn fmt<W: fmt::Write>(&self, f: &mut fmt::Formatter<W>) -> fmt::Result {
+        let n = self.0;
+        write!(f, "{n}, {}", Named(names::number(n)))
     }
-    page.print(words);
-}
-
-pub fn good(page: &mut Page, colour: bool, words: &[u8]) {
-    painted(page, colour, b"\x1b[32m", words);
-}
-
-pub fn bad(page: &mut Page, colour: bool, words: &[u8]) {
-    painted(page, colour, b"\x1b[1;31m", words);
 }

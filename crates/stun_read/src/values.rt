@@ -1,253 +1,178 @@
 // What an attribute says, in its own terms: addresses, texts, error codes, lists of types, and hex where no rule says more.
-use crate::page::{bad, blanks, column, good, named, number};
+use crate::page::{Named, Number, Page};
 use big_endian::u16_at;
 use net::Family;
 use read_typed::Value;
 use registry::{ErrorCode, Rule};
-use stun_io::parts::{minus, plus};
-use stun_io::unbuffered::Page;
+use std::fmt::{self, Display};
+use stun_io::walk::Attribute;
 use wire::transaction_id::TransactionId;
 
-// A type's name, or its number where it has none; answers how many characters that takes.
-fn kind_name(page: &mut Page, kind: u16) -> usize {
-    let n = names::attribute(kind);
-    if n.is_empty() {
-        page.print(b"0x");
-        page.word(kind as u64, 4);
-        return 6;
+// A type's name, or its number where it has none.
+#[derive(Clone, Copy)]
+struct Kind(u16);
+
+impl Display for Kind {
+    fn fmt<W: fmt::Write>(&self, f: &mut fmt::Formatter<W>) -> fmt::Result {
+        let kind = self.0;
+        let name = names::attribute(kind);
+        if name.size != 0 {
+            return Named(name).fmt(f);
+        }
+        let mut text = [b'0', b'x', 0, 0, 0, 0];
+        hex_text::show(&kind.to_be_bytes(), &mut text[2..]);
+        f.pad(std::str::from_utf8(&text).unwrap_or_default())
     }
-    named(page, n);
-    n.len()
 }
 
 // PLACE NAME SIZE, in columns.
-pub fn row(page: &mut Page, at: usize, kind: u16, size: usize) {
-    column(page, at, 5);
-    page.print(b"  ");
-    let taken = kind_name(page, kind);
-    blanks(page, minus(18, taken));
-    column(page, size, 6);
-    page.print(b"  ");
+pub fn row(page: &mut Page, a: Attribute<'_>) {
+    let at = a.at;
+    let size = a.value.len();
+    write!(page, "{at:5}  {:18}{size:6}  ", Kind(a.kind));
 }
 
 // A quote and a backslash stand behind a backslash.
-fn ordinary(page: &mut Page, b: u8) {
-    match b {
-        34 | 92 => page.sign(b'\\'),
-        _ => (),
-    }
-    page.sign(b);
-}
-
 fn character(page: &mut Page, before: u8, b: u8, after: u8) {
     if display::escape::is_escaped(before, b, after) {
-        page.print(b"\\x");
-        page.word(b as u64, 2);
+        write!(page, "\\x{b:02x}");
         return;
     }
-    ordinary(page, b);
-}
-
-// The byte at a place; nought where there is none.
-fn byte_at(s: &[u8], i: usize) -> u8 {
-    if s.len() <= i {
-        return 0;
+    if matches!(b, b'"' | b'\\') {
+        page.print(b"\\");
     }
-    s[i]
-}
-
-fn characters(page: &mut Page, s: &[u8]) {
-    let mut before = 0u8;
-    let mut i = 0;
-    while i < s.len() {
-        let b = s[i];
-        i += 1;
-        character(page, before, b, byte_at(s, i));
-        before = b;
-    }
+    page.print(&[b]);
 }
 
 fn quoted(page: &mut Page, s: &[u8]) {
-    page.sign(b'"');
-    characters(page, s);
-    page.sign(b'"');
-}
-
-fn ipv4(page: &mut Page, ip: &[u8]) {
-    page.decimal(byte_at(ip, 0) as u64);
-    page.sign(b'.');
-    page.decimal(byte_at(ip, 1) as u64);
-    page.sign(b'.');
-    page.decimal(byte_at(ip, 2) as u64);
-    page.sign(b'.');
-    page.decimal(byte_at(ip, 3) as u64);
-}
-
-fn group(page: &mut Page, n: u16, first: bool) {
-    if !first {
-        page.sign(b':');
+    page.print(b"\"");
+    let mut before = 0;
+    for (i, b) in s.iter().enumerate() {
+        let after = s.get(i + 1).copied().unwrap_or(0);
+        character(page, before, *b, after);
+        before = *b;
     }
-    page.word(n as u64, 1);
+    page.print(b"\"");
 }
 
-// Groups in hex, from one place up to another, parted by colons.
-fn groups(page: &mut Page, g: &[u16], from: usize, to: usize) {
-    let mut i = from;
-    while i < to {
-        if g.len() <= i {
-            return;
+// Groups in hex, parted by colons.
+fn groups(page: &mut Page, s: &[u16]) {
+    for (i, n) in s.iter().enumerate() {
+        if i != 0 {
+            page.print(b":");
         }
-        group(page, g[i], i == from);
-        i += 1;
+        write!(page, "{n:x}");
     }
 }
 
 // All groups but a run of zeros, which two colons stand for.
-fn shortened(page: &mut Page, g: &[u16]) {
-    let z = display::longest_zeros(g);
-    let at = z.at;
-    let size = z.size;
-    if size == 0 {
-        groups(page, g, 0, 8);
+fn ipv6(page: &mut Page, ip: &[u8; 16]) {
+    let mut g = [0u16; 8];
+    for (i, pair) in ip.chunks_exact(2).enumerate() {
+        g[i] = u16_at(pair, 0);
+    }
+    let zeros = display::longest_zeros(&g);
+    if zeros.size == 0 {
+        groups(page, &g);
         return;
     }
-    groups(page, g, 0, at);
+    groups(page, g.get(..zeros.at).unwrap_or_default());
     page.print(b"::");
-    groups(page, g, plus(at, size), 8);
+    let behind = zeros.at.saturating_add(zeros.size);
+    groups(page, g.get(behind..).unwrap_or_default());
 }
 
-fn ipv6(page: &mut Page, ip: &[u8]) {
-    let g = [
-        u16_at(ip, 0),
-        u16_at(ip, 2),
-        u16_at(ip, 4),
-        u16_at(ip, 6),
-        u16_at(ip, 8),
-        u16_at(ip, 10),
-        u16_at(ip, 12),
-        u16_at(ip, 14),
-    ];
-    page.sign(b'[');
-    shortened(page, &g);
-    page.sign(b']');
-}
-
-fn address(page: &mut Page, family: Family, port: u16, bytes: [u8; 16]) {
+fn address(page: &mut Page, family: Family, port: u16, ip: [u8; 16]) {
     match family {
-        Family::Ipv4 => ipv4(page, &bytes),
-        Family::Ipv6 => ipv6(page, &bytes),
+        Family::Ipv4 => {
+            let [a, b, c, d, ..] = ip;
+            write!(page, "{a}.{b}.{c}.{d}:{port}");
+        }
+        Family::Ipv6 => {
+            page.print(b"[");
+            ipv6(page, &ip);
+            write!(page, "]:{port}");
+        }
     }
-    page.sign(b':');
-    page.decimal(port as u64);
 }
 
 // The code, what it means, the phrase, and the reserved bits where they aren't nought.
 fn code(page: &mut Page, error: ErrorCode, phrase: &[u8]) {
     let n = error.code;
     let name = names::code(n);
-    page.decimal(n as u64);
-    if !name.is_empty() {
-        page.sign(b' ');
-        named(page, name);
+    if name.size == 0 {
+        write!(page, "{n}, ");
+    } else {
+        write!(page, "{n} {}, ", Named(name));
     }
-    page.print(b", ");
     quoted(page, phrase);
-    if error.reserved != 0 {
-        page.print(b", reserved ");
-        page.decimal(error.reserved as u64);
+    let reserved = error.reserved;
+    if reserved != 0 {
+        write!(page, ", reserved {reserved}");
     }
 }
 
-fn kind_in_list(page: &mut Page, kind: u16, first: bool) {
-    if !first {
-        page.print(b", ");
+// Types of two bytes each, and a dash for none.
+fn list(page: &mut Page, value: &[u8]) {
+    if value.is_empty() {
+        page.print(b"-");
     }
-    kind_name(page, kind);
-}
-
-fn types(page: &mut Page, s: &[u8]) {
-    let mut i = 0;
-    while i < s.len() {
-        kind_in_list(page, u16_at(s, i), i == 0);
-        if s.len() - i < 2 {
-            return;
+    for (i, pair) in value.chunks(2).enumerate() {
+        if i != 0 {
+            page.print(b", ");
         }
-        i += 2;
+        write!(page, "{}", Kind(u16_at(pair, 0)));
     }
-}
-
-fn bad_print(page: &mut Page, sum: u32, colour: bool) {
-    bad(page, colour, b", bad");
-    page.print(b": the bytes before it come to ");
-    page.word(sum as u64, 8);
 }
 
 // A FINGERPRINT beside what the bytes before it come to.
-fn checked_print(page: &mut Page, d: &[u8], at: usize, value: &[u8], colour: bool) {
-    let sum = fingerprint::fingerprint_at(d, at);
-    page.hex(value);
-    if big_endian::u32_at(value, 0) == sum {
-        good(page, colour, b", good");
-        return;
+fn checked_print(page: &mut Page, d: &[u8], a: Attribute<'_>) {
+    let sum = fingerprint::fingerprint_at(d, a.at);
+    page.hex(a.value);
+    if big_endian::u32_at(a.value, 0) == sum {
+        page.good(", good");
+    } else {
+        page.bad(", bad");
+        write!(page, ": the bytes before it come to {sum:08x}");
     }
-    bad_print(page, sum, colour);
-}
-
-fn list(page: &mut Page, value: &[u8]) {
-    if value.len() == 0 {
-        page.sign(b'-');
-        return;
-    }
-    types(page, value);
 }
 
 // A value that says nothing but its bytes.
-fn plain(page: &mut Page, d: &[u8], at: usize, kind: u16, value: &[u8], colour: bool) {
-    if kind == fingerprint::FINGERPRINT {
-        checked_print(page, d, at, value, colour);
+fn plain(page: &mut Page, d: &[u8], a: Attribute<'_>) {
+    if a.kind == fingerprint::FINGERPRINT {
+        checked_print(page, d, a);
         return;
     }
-    let rule = registry::entry_rule(registry::entry_of(kind));
-    match rule {
-        Rule::Text => quoted(page, value),
-        Rule::Types => list(page, value),
-        _ => page.hex(value),
+    match registry::entry_rule(registry::entry_of(a.kind)) {
+        Rule::Text => quoted(page, a.value),
+        Rule::Types => list(page, a.value),
+        _ => page.hex(a.value),
     }
 }
 
 // A value at fault: why, and its bytes.
-fn faulty(page: &mut Page, n: u8, value: &[u8], colour: bool) {
-    bad(page, colour, b"at fault: ");
-    number(page, n);
-    page.print(b": ");
+fn faulty(page: &mut Page, n: u8, value: &[u8]) {
+    page.bad("at fault: ");
+    write!(page, "{}: ", Number(n));
     page.hex(value);
 }
 
-// What the value of the attribute at a place says.
-pub fn said(
-    page: &mut Page,
-    d: &[u8],
-    at: usize,
-    kind: u16,
-    value: &[u8],
-    id: TransactionId,
-    colour: bool,
-) {
-    let t = read_typed::value_of(kind, value, id);
-    let bytes = t.ip;
-    let v = t.value;
-    match v {
-        Value::Address { family, port } => address(page, family, port, bytes),
-        Value::Code(error) => code(page, error, read_typed::part_of(kind, value)),
-        Value::Plain => plain(page, d, at, kind, value, colour),
-        Value::Refused { number: n } => faulty(page, n, value, colour),
+// What an attribute of a datagram says.
+pub fn said(page: &mut Page, d: &[u8], a: Attribute<'_>, id: TransactionId) {
+    let t = read_typed::value_of(a.kind, a.value, id);
+    let ip = t.ip;
+    match t.value {
+        Value::Address { family, port } => address(page, family, port, ip),
+        Value::Code(error) => code(page, error, read_typed::part_of(a.kind, a.value)),
+        Value::Plain => plain(page, d, a),
+        Value::Refused { number } => faulty(page, number, a.value),
     }
 }
 
-// Padding is shown where it isn't nought: three bytes at most, so four make a number.
+// Padding is shown where it isn't nought.
 pub fn padding(page: &mut Page, s: &[u8]) {
-    if big_endian::u32_at(s, 0) != 0 {
-        page.print(b", padding ");
+    if s.iter().any(|b| *b != 0) {
+        write!(page, ", padding ");
         page.hex(s);
     }
 }

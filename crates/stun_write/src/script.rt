@@ -1,129 +1,127 @@
 // The lines of a script, which is standard input.
-use stun_io::input::{Got, read_behind};
-use stun_io::parts::{find, move_down, part};
+ghost use Rattle.std.specs.Prelude.{◌≡◌, ◌-◌, ◌≤◌, length};
+
+use crate::expected::Wanted;
+use stun_io::input::read_some;
+use stun_io::status::Told;
 use stun_io::words::is_comment;
 
-// A line, and how much of the buffer is read. Of a long line, which is longer than the buffer, only the end is there. Last,
-// whether reading failed, which has been told.
-#[derive(Clone, Copy)]
-pub struct Line {
-    pub on: bool,
-    pub long: bool,
-    pub start: usize,
-    pub end: usize,
+// As many characters as a line has at most, with its end.
+pub const LONGEST: usize = 262144;
+
+// How much of the buffer is read, where the next line starts, and whether the input has ended.
+#[derive(Drop)]
+pub struct Script {
+    rt: HostRuntime,
+    input: [u8; LONGEST],
+    start: usize,
     have: usize,
     over: bool,
-    pub failed: bool,
+    ghost order: { start ≤ have },
+    ghost inside: { have ≤ 262144 },
 }
 
-// No line yet.
-fn waiting(long: bool, start: usize, have: usize) -> Line {
-    Line {
-        on: false,
-        long,
-        start,
-        end: 0,
-        have,
-        over: false,
-        failed: false,
-    }
+// Where a line stands, without its end. Of a long one, which is longer than the buffer, only the end is there.
+#[derive(Clone, Copy)]
+pub struct Line {
+    long: bool,
+    start: usize,
+    end: usize,
 }
 
-// Before the first line.
-pub fn at_start() -> Line {
-    waiting(false, 0, 0)
-}
-
-// The place behind a line and its end.
-fn behind(line: Line) -> usize {
-    if line.end < line.have {
-        return line.end + 1;
-    }
-    line.have
-}
-
-// Has all that was read been used?
-pub fn idle(line: Line) -> bool {
-    behind(line) == line.have
-}
-
-// There is no line any more.
-fn over(failed: bool) -> Line {
-    Line {
-        on: false,
-        long: false,
-        start: 0,
-        end: 0,
-        have: 0,
-        over: true,
-        failed,
-    }
-}
-
-// The buffer is full and has no line end. Of a remark its sign is enough.
-fn overlong(line: Line, input: &[u8]) -> Line {
-    if is_comment(input) && !line.long {
-        return waiting(false, 0, 1);
-    }
-    waiting(true, 0, 0)
-}
-
-// The input has ended: the last line may have no line end.
-fn last(line: Line, have: usize) -> Line {
-    Line {
-        on: have > 0 || line.long,
-        long: line.long,
-        start: 0,
-        end: have,
-        have,
-        over: true,
-        failed: false,
-    }
-}
-
-// Reads behind what is there, where there is room.
-fn more(rt: HostRuntime, line: Line, have: usize, input: &mut [u8]) -> Line {
-    if input.len() <= have {
-        return overlong(line, input);
-    }
-    let got = read_behind(rt, &mut rt.stdin(), b"standard input", input, have);
-    match got {
-        Got::Upto(end) => waiting(line.long, 0, end),
-        Got::End => last(line, have),
-        Got::Failed => over(true),
-    }
-}
-
-// Takes the line that starts where the last one ended, or reads for its end.
-fn seek(rt: HostRuntime, line: Line, input: &mut [u8]) -> Line {
-    let start = line.start;
-    let have = line.have;
-    let end = find(part(input, 0, have), start, 10);
-    if end < have {
-        return Line {
-            on: true,
-            long: line.long,
-            start,
-            end,
-            have,
+impl Script {
+    // Before the first line.
+    pub fn new(rt: HostRuntime) -> Script {
+        Script {
+            rt,
+            input: [0; LONGEST],
+            start: 0,
+            have: 0,
             over: false,
-            failed: false,
-        };
+        }
     }
-    let rest = move_down(input, start, have);
-    more(rt, line, rest, input)
-}
 
-// The next line, without its end; not on where there is none.
-pub fn next(rt: HostRuntime, line: Line, input: &mut [u8]) -> Line {
-    if line.over {
-        return over(false);
+    // What was read and isn't used.
+    fn rest(&self) -> &[u8]
+        ensures { length result.now ≡ self.now.have - self.now.start }
+    {
+        &self.input[self.start..self.have]
     }
-    let mut line = waiting(false, behind(line), line.have);
-    let mut left = u64::MAX;
-    while left > 0 && !line.on && !line.over {
-        line = seek(rt, line, input);
-        left -= 1;
+
+    // Has all that was read been used?
+    pub fn idle(&self) -> bool {
+        self.start == self.have
     }
-    line
+
+    pub fn text(&self, line: Line) -> Result<&[u8], Wanted> {
+        if line.long {
+            return Err(Wanted::Line);
+        }
+        self.input.get(line.start..line.end).ok_or(Wanted::Line)
+    }
+
+    // The line whose end was read.
+    fn ended(&mut self, long: bool) -> Option<Line> {
+        let size = self.rest().iter().position(|b| *b == b'\n')?;
+        let start = self.start;
+        let end = start + size;
+        self.start = end + 1;
+        Some(Line { long, start, end })
+    }
+
+    // The line that the input ends in, if there is one.
+    fn last(&mut self, long: bool) -> Option<Line> {
+        let (start, end) = (self.start, self.have);
+        self.start = end;
+        (long || start < end).then_some(Line { long, start, end })
+    }
+
+    // Moves what isn't used to the front.
+    fn settle(&mut self)
+        ensures { self.new.start ≡ 0 }
+    {
+        let (start, have) = (self.start, self.have);
+        self.input.copy_within(start..have, 0);
+        self.start = 0;
+        self.have = have - start;
+    }
+
+    // Reads behind what is there; where nothing more comes, the input has ended.
+    fn read(&mut self) -> Result<(), Told> {
+        let have = self.have;
+        let mut stdin = self.rt.stdin();
+        let n = read_some(
+            self.rt,
+            &mut stdin,
+            "standard input",
+            &mut self.input[have..],
+        )?;
+        self.over = n == 0;
+        self.have = have + n;
+        Ok(())
+    }
+
+    // The next line. The last may have no line end.
+    pub fn next(&mut self) -> Result<Option<Line>, Told> {
+        let mut long = false;
+        for _ in 0..u64::MAX {
+            if let Some(line) = self.ended(long) {
+                return Ok(Some(line));
+            }
+            if self.over {
+                return Ok(self.last(long));
+            }
+            self.settle();
+            if self.have < LONGEST {
+                self.read()?;
+            } else if !long && is_comment(&self.input) {
+                // of a remark its sign is enough
+                self.have = 1;
+            } else {
+                long = true;
+                self.have = 0;
+            }
+        }
+        Ok(None)
+    }
 }

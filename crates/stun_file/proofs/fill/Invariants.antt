@@ -1,4 +1,0 @@
-use Rattle.stun_file.proofs.fill.Given as goal
-
-abbrev pub decreases-loop-left : goal.decreases-loop-left
-decreases-loop-left g l = l.left
