@@ -1,26 +1,24 @@
 -- Whole blocks taken in one after the other.
-use Rattle.std.proofs.Common.{◌≡◌, ℕ, ◌-◌, ◌/◌, ◌<◌, ◌≤◌, List, length, take, drop, sym, refl, ap, ◌∙◌, arith, length-drop, take-append-drop, length-take-le, take_all}
+use Rattle.std.proofs.Common.{◌≡◌, ℕ, zero, suc, ◌+◌, ◌/◌, ◌<◌, List, [], length, get_or, take, drop, sym, refl, ap, ◌∙◌, add-one, arith}
+use Rattle.std.specs.Simd.{first_chunks}
 use Rattle.sha1_digest.specs.declared.compression.State.{State}
 use Rattle.sha1_digest.specs.Compression.{compress, blocks, run}
-use Rattle.sha1_digest.specs.CompressionLaws.{run_block}
 
--- the hash value g has taken in what stands before t
-pub record Taking (s : List ℕ) (h g : State) (t : List ℕ) : Type 0 where
-  pub same : run t g ≡ run s h
+-- one block more, of n
+next : (n i : ℕ) (s : List ℕ) (h : State) → i < n → blocks (suc i) s h ≡ compress (get_or (first_chunks 64 n s) i []) (blocks i s h)
+unfolding blocks
+next zero i s h l = absurd (omega arith)
+next (suc n) zero s h l = refl
+next (suc n) (suc i) s h l = next n i (drop 64 s) (compress (take 64 s) h) (omega arith)
 
-pub taking_start : (s : List ℕ) (h : State) → Taking s h h s
-taking_start s h = record { same = refl }
+pub taken_start : (s : List ℕ) (h : State) → h ≡ blocks 0 s h
+unfolding blocks
+taken_start s h = refl
 
-pub taking_turn : {s t : List ℕ} {h g f : State} → Taking s h g t → 64 ≤ length t → f ≡ compress (take 64 t) g
-    → Taking s h f (take (length t - 64) (drop 64 t))
-taking_turn {s} {t} {h} {g} {f} r k e =
-    let d : take (length t - 64) (drop 64 t) ≡ drop 64 t = take_all (length t - 64) (drop 64 t) (omega (arith, length-drop 64 t)) in
-    let q : run t g ≡ run (drop 64 t) (compress (take 64 t) g) =
-    ap (λ (l : List ℕ). run l g) (sym (take-append-drop 64 t)) ∙ run_block (take 64 t) (drop 64 t) g (length-take-le 64 t k) in
-    record { same = rw (d, e) (sym q ∙ r.same) }
+pub taken_turn : (s : List ℕ) (h : State) (i : ℕ) {g r : State} {whole : List (List ℕ)} → g ≡ blocks i s h → whole ≡ first_chunks 64 (length s / 64) s
+    → i < length s / 64 → r ≡ compress (get_or whole i []) g → r ≡ blocks (i + 1) s h
+taken_turn s h i {g} {r} {whole} e w l q = q ∙ rw (e, w, add-one) (sym (next (length s / 64) i s h l))
 
-pub taking_done : {s t : List ℕ} {h g : State} → Taking s h g t → length t < 64 → g ≡ run s h
-unfolding run blocks
-taking_done {s} {t} {h} {g} r k =
-    let e : length t / 64 ≡ 0 = omega arith in
-    sym (ap (λ (n : ℕ). blocks n t g) e) ∙ r.same
+pub taken_done : (s : List ℕ) (h : State) (i : ℕ) {g : State} → g ≡ blocks i s h → i ≡ length s / 64 → g ≡ run s h
+unfolding run
+taken_done s h i {g} e d = e ∙ ap (λ (n : ℕ). blocks n s h) d

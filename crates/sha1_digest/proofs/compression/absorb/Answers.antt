@@ -1,11 +1,12 @@
-use Rattle.sha1_digest.proofs.Taken.{taking_start, taking_turn, taking_done}
+use Rattle.std.proofs.Common.{rules, arith}
+use Rattle.sha1_digest.proofs.Taken.{taken_start, taken_turn, taken_done}
 use Rattle.sha1_digest.proofs.compression.absorb.Goals as goal
 
-pub loop-t-init : goal.loop-t-init
-loop-t-init c = search (taking_start)
+pub loop-block-init : goal.loop-block-init
+loop-block-init c = search (taken_start)
 
-pub loop-t-preserved : goal.loop-t-preserved
-loop-t-preserved c = search (taking_turn)
+pub loop-block-preserved : goal.loop-block-preserved
+loop-block-preserved c = search (rules, taken_turn)
 
 pub returns : goal.returns
-returns c = search (taking_done)
+returns c = taken_done c.args.s.now c.args.h c.loop-block.block-index c.loop-block.invariant (omega arith)

@@ -1,9 +1,6 @@
-use Rattle.std.proofs.Common.{length}
-use Rattle.sha1_digest.proofs.Taken.{Taking}
+use Rattle.std.proofs.Common.{◌≡◌}
+use Rattle.sha1_digest.specs.Compression.{blocks}
 use Rattle.sha1_digest.proofs.compression.absorb.Given as goal
 
-abbrev pub invariant-loop-t : goal.invariant-loop-t
-invariant-loop-t l = Taking l.s l.initial.g l.g l.t
-
-abbrev pub decreases-loop-t : goal.decreases-loop-t
-decreases-loop-t l = length l.t
+abbrev pub invariant-loop-block : goal.invariant-loop-block
+invariant-loop-block l = l.g ≡ blocks l.block-index l.s l.fn.h
