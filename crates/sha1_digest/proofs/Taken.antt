@@ -1,24 +1,18 @@
 -- Whole blocks taken in one after the other.
-use Rattle.std.proofs.Common.{◌≡◌, ℕ, zero, suc, ◌+◌, ◌/◌, ◌<◌, List, [], length, get_or, take, drop, sym, refl, ap, ◌∙◌, add-one, arith}
-use Rattle.std.specs.Simd.{first_chunks}
+use Rattle.std.proofs.Common.{◌≡◌, ℕ, ◌/◌, ◌<◌, ◌≤◌, List, length, take, drop, sym, ap, ◌∙◌, arith, take-append-drop, length-take-le}
 use Rattle.sha1_digest.specs.declared.compression.State.{State}
 use Rattle.sha1_digest.specs.Compression.{compress, blocks, run}
+use Rattle.sha1_digest.specs.CompressionLaws.{run_block}
 
--- one block more, of n
-next : (n i : ℕ) (s : List ℕ) (h : State) → i < n → blocks (suc i) s h ≡ compress (get_or (first_chunks 64 n s) i []) (blocks i s h)
-unfolding blocks
-next zero i s h l = absurd (omega arith)
-next (suc n) zero s h l = refl
-next (suc n) (suc i) s h l = next n i (drop 64 s) (compress (take 64 s) h) (omega arith)
+-- the hash value g has taken in what stands before t
+pub taking_turn : (s t : List ℕ) (h g : State) {f : State} {b r : List ℕ} → run t g ≡ run s h → 64 ≤ length t → b ≡ take 64 t → r ≡ drop 64 t → f ≡ compress b g
+    → run r f ≡ run s h
+taking_turn s t h g {f} {b} {r} q k d n e =
+    rw (n, e, d)
+    (sym (ap (λ (l : List ℕ). run l g) (sym (take-append-drop 64 t)) ∙ run_block (take 64 t) (drop 64 t) g (length-take-le 64 t k)) ∙ q)
 
-pub taken_start : (s : List ℕ) (h : State) → h ≡ blocks 0 s h
-unfolding blocks
-taken_start s h = refl
-
-pub taken_turn : (s : List ℕ) (h : State) (i : ℕ) {g r : State} {whole : List (List ℕ)} → g ≡ blocks i s h → whole ≡ first_chunks 64 (length s / 64) s
-    → i < length s / 64 → r ≡ compress (get_or whole i []) g → r ≡ blocks (i + 1) s h
-taken_turn s h i {g} {r} {whole} e w l q = q ∙ rw (e, w, add-one) (sym (next (length s / 64) i s h l))
-
-pub taken_done : (s : List ℕ) (h : State) (i : ℕ) {g : State} → g ≡ blocks i s h → i ≡ length s / 64 → g ≡ run s h
-unfolding run
-taken_done s h i {g} e d = e ∙ ap (λ (n : ℕ). blocks n s h) d
+pub taking_done : (s t : List ℕ) (h g : State) → run t g ≡ run s h → length t < 64 → g ≡ run s h
+unfolding run blocks
+taking_done s t h g q k =
+    let e : length t / 64 ≡ 0 = omega arith in
+    sym (ap (λ (n : ℕ). blocks n t g) e) ∙ q

@@ -99,22 +99,22 @@ fn round(s: State, f: u32, k: u32, x: u32) -> State
     }
 }
 
-// Twenty rounds, which share a function and a constant, so that no turn asks which one it is.
-fn twenty<F: Fn(u32, u32, u32) -> u32>(
+// Twenty rounds, which share a function and a constant, so that no turn asks which one it is. Each twenty is code of its own, since where
+// they start is a parameter of the type: one that serves two of them is not inlined, and SHA-1 then takes a sixth longer.
+fn twenty<const FROM: usize, F: Fn(u32, u32, u32) -> u32>(
     h: State,
     w: &[u32; 80],
-    from: usize,
     mix: F,
     k: u32,
 ) -> State
-    requires twenties { (from % 20 ≡ 0) × (from ≤ 60) }
+    requires twenties { (FROM % 20 ≡ 0) × (FROM ≤ 60) }
     requires callable { F.IsAlwaysCallable mix }
-    requires mixes { (x y z r : ℕ) → F.post mix x y z r → r ≡ spec.mix_of from x y z }
-    requires constant { k ≡ spec.constant_of from }
-    ensures { result ≡ spec.rounds w.now from 20 h }
+    requires mixes { (x y z r : ℕ) → F.post mix x y z r → r ≡ spec.mix_of FROM x y z }
+    requires constant { k ≡ spec.constant_of FROM }
+    ensures { result ≡ spec.rounds w.now FROM 20 h }
 {
     let mut s = h;
-    for x in &w[from..from + 20] {
+    for x in &w[FROM..FROM + 20] {
         s = round(s, mix(s.b, s.c, s.d), k, *x);
     }
     s
@@ -137,10 +137,10 @@ fn compress(h: State, block: &[u8; 64]) -> State
     ensures { result ≡ spec.compress block.now h }
 {
     let w = schedule(block);
-    let s20 = twenty(h, &w, 0, choice, 0x5a827999);
-    let s40 = twenty(s20, &w, 20, parity, 0x6ed9eba1);
-    let s60 = twenty(s40, &w, 40, majority, 0x8f1bbcdc);
-    let s80 = twenty(s60, &w, 60, parity, 0xca62c1d6);
+    let s20 = twenty::<0, _>(h, &w, choice, 0x5a827999);
+    let s40 = twenty::<20, _>(s20, &w, parity, 0x6ed9eba1);
+    let s60 = twenty::<40, _>(s40, &w, majority, 0x8f1bbcdc);
+    let s80 = twenty::<60, _>(s60, &w, parity, 0xca62c1d6);
     sum(s80, h)
 }
 
@@ -149,8 +149,10 @@ pub fn absorb(h: State, s: &[u8]) -> State
     ensures { result ≡ spec.run s.now h }
 {
     let mut g = h;
-    for block in s.as_chunks::<64>().0 {
+    let mut t = s;
+    while let Some((block, rest)) = t.split_first_chunk::<64>() {
         g = compress(g, block);
+        t = rest;
     }
     g
 }

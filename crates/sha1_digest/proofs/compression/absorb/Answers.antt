@@ -1,12 +1,11 @@
-use Rattle.std.proofs.Common.{rules, arith}
-use Rattle.sha1_digest.proofs.Taken.{taken_start, taken_turn, taken_done}
+use Rattle.std.proofs.Common.{arith}
+use Rattle.sha1_digest.proofs.Taken.{taking_turn, taking_done}
 use Rattle.sha1_digest.proofs.compression.absorb.Goals as goal
 
-pub loop-block-init : goal.loop-block-init
-loop-block-init c = search (taken_start)
-
 pub loop-block-preserved : goal.loop-block-preserved
-loop-block-preserved c = search (rules, taken_turn)
+loop-block-preserved c =
+    let parts = c.in-Some.ensures.cases in
+    taking_turn c.args.s.now c.loop-block.t.now c.args.h c.loop-block.g c.loop-block.invariant (omega (arith, parts.2)) parts.0 parts.1 c.compress-g.ensures
 
 pub returns : goal.returns
-returns c = taken_done c.args.s.now c.args.h c.loop-block.block-index c.loop-block.invariant (omega arith)
+returns c = taking_done c.args.s.now c.loop-block.t.now c.args.h c.loop-block.g c.loop-block.invariant c.in_default.ensures.cases
