@@ -42,26 +42,21 @@ fn alone(a: u64) -> Waiting
     }
 }
 
-// Up to eight bytes, the first lowest.
-fn word_of(s: &[u8]) -> u64
-    requires { length s.now ≤ 8 }
-    ensures { result ≡ word s.now }
-{
-    let mut w: u64 = 0;
-    let mut k = s.len();
-    while 0 < k {
-        k -= 1;
-        w = (s[k] as u64) ^ (w * 256);
-    }
-    w
-}
-
-// Eight bytes at a place.
+// Eight bytes at a place, the first lowest.
 fn word_at(s: &[u8], i: usize) -> u64
     requires { i + 8 ≤ length s.now }
     ensures { result ≡ word (take 8 (drop i s.now)) }
 {
-    word_of(&s[i..i + 8])
+    u64::from_le_bytes([
+        s[i],
+        s[i + 1],
+        s[i + 2],
+        s[i + 3],
+        s[i + 4],
+        s[i + 5],
+        s[i + 6],
+        s[i + 7],
+    ])
 }
 
 // The first four bytes.
@@ -69,7 +64,7 @@ fn first_four(s: &[u8]) -> u32
     requires { 4 ≤ length s.now }
     ensures { result ≡ word (take 4 s.now) }
 {
-    word_of(&s[0..4]) as u32
+    u32::from_le_bytes([s[0], s[1], s[2], s[3]])
 }
 
 // The polynomial divides x^300 + x^155 + x^117 + x^89 + 1, so the next word, `w` with what waited for it, may as well be
