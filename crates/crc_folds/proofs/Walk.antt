@@ -1,16 +1,12 @@
 -- Bytes of a slice, several at once.
-use mathlib.Core.Path.{◌≡◌, sym, ap, ap₂, ◌∙◌}
-use mathlib.Core.List.{List, ◌∷◌}
-use Prim.Native.Nat.{ℕ, suc, ◌+◌, ◌-◌, ◌*◌, ◌^◌, ◌≤◌, ◌<◌}
-use native.Mathlib.Nat.{le_of_eq}
-use native.Mathlib.Omega.{arith}
-use lib.ListN.{length, get_or, take, drop, drop_of_length-le, length-take, length-drop, take-append-drop}
-use lib.Seq.{drop-cons, drop-drop, take_all}
-use lib.Bits.{bit_xor}
-use Rattle.base.specs.BytesLaws.{bytes, take-bytes, drop-bytes}
+use Rattle.std.proofs.Common.{◌≡◌, ℕ, ◌+◌, ◌-◌, ◌*◌, ◌^◌, ◌≤◌, ◌<◌, List, [], ◌∷◌, ◌++◌, length, get_or, take, drop, refl, sym, ap, ap₂, ◌∙◌, le_of_eq, add-one, arith, length-take, length-drop, take-append-drop, drop-cons, drop-drop, take_all, w32, w64}
+use Rattle.std.specs.Int.{from_le_bytes}
+use Rattle.std.specs.Int.Bits.{bit_xor, xor_shifted}
+use Rattle.std.proofs.lemmas.Nat.{xor_comm}
+use Rattle.base.specs.Bytes.{Bytes}
 use Rattle.crc.specs.Crc.{bytes_from}
 use Rattle.crc.specs.Octets.{octets, word}
-use Rattle.crc.proofs.CrcLaws.{bytes_from-append, at_once, word_lt}
+use Rattle.crc.proofs.CrcLaws.{bytes_from-append, at_once}
 
 pub part : (n : ℕ) (s : List ℕ) (i r : ℕ) → n ≤ length s - i
     → bytes_from (octets n (bit_xor r (word (take n (drop i s))))) (drop (i + n) s) ≡ bytes_from r (drop i s)
@@ -24,44 +20,50 @@ part n s i r h =
 pub whole_rest : (s : List ℕ) (i : ℕ) → take (length s - i) (drop i s) ≡ drop i s
 whole_rest s i = take_all (length s - i) (drop i s) (le_of_eq (length-drop i s))
 
--- the next eight
+-- bytes as a number by sums
+abbrev little : List ℕ → ℕ
+little [] = 0
+little (b ∷ s) = little s * 256 + b
+
+summed : (s : List ℕ) → Bytes s → word s ≡ little s
+unfolding word
+summed [] h = refl
+summed (b ∷ s) (h, hs) =
+    let e : word s ≡ little s = summed s hs in
+    ap (λ (w : ℕ). bit_xor b (w * 2 ^ 8)) e ∙ xor_comm b (little s * 2 ^ 8) ∙ xor_shifted (little s) 8 b h
+
+from : (s : List ℕ) (k : ℕ) (t : List ℕ) {j : ℕ} → j ≡ k + 1 → k < length s → t ≡ drop j s → get_or s k 0 ∷ t ≡ drop k s
+from s k t e l f = rw (f, e, add-one, drop-cons s k 0 l) refl
+
+-- eight bytes at a place
 module _ (s : List ℕ) (i : ℕ) where
-  pub next_length : length (take (i + 8 - i) (drop i s)) ≤ 8
-  next_length = simp (length-take, length-drop) (omega arith)
+  abbrev eight_at : List ℕ
+  eight_at =
+      get_or s i 0 ∷ get_or s (i + 1) 0 ∷ get_or s (i + 2) 0 ∷ get_or s (i + 3) 0 ∷ get_or s (i + 4) 0 ∷ get_or s (i + 5) 0 ∷ get_or s (i + 6) 0
+      ∷ get_or s (i + 7) 0 ∷ []
 
-  pub next_is : {w : ℕ} → w ≡ word (take (i + 8 - i) (drop i s)) → w ≡ word (take 8 (drop i s))
-  next_is e = let k : i + 8 - i ≡ 8 = omega arith in e ∙ ap (λ (j : ℕ). word (take j (drop i s))) k
+  front : i + 8 ≤ length s → eight_at ++ drop (i + 8) s ≡ drop i s
+  front l =
+      from s i _ (omega arith) (omega arith)
+      (from s (i + 1) _ (omega arith) (omega arith)
+      (from s (i + 2) _ (omega arith) (omega arith)
+      (from s (i + 3) _ (omega arith) (omega arith)
+      (from s (i + 4) _ (omega arith) (omega arith)
+      (from s (i + 5) _ (omega arith) (omega arith) (from s (i + 6) _ (omega arith) (omega arith) (from s (i + 7) _ (omega arith) (omega arith) refl)))))))
 
-pub four_lt : (s : List ℕ) (w : ℕ) → ((i : ℕ) → get_or s i 0 < 256) → w ≡ word (take 4 s) → w < 2 ^ 32
-four_lt s w b e = rw e (word_lt 4 (take 4 s) (take-bytes 4 s (bytes s b)) (simp length-take (omega arith)))
+  pub eight : {w : ℕ} → i + 8 ≤ length s → ((k : ℕ) → get_or s k 0 < 256) → w ≡ from_le_bytes w64 eight_at → w ≡ word (take 8 (drop i s))
+  eight {w} l h e =
+      let sum : from_le_bytes w64 eight_at ≡ little eight_at = omega arith in
+      let bytes : Bytes eight_at = (h i, (h (i + 1), (h (i + 2), (h (i + 3), (h (i + 4), (h (i + 5), (h (i + 6), (h (i + 7), tt)))))))) in
+      e ∙ sum ∙ sym (summed eight_at bytes) ∙ ap (λ (t : List ℕ). word (take 8 t)) (front l)
 
--- ---- bytes read as a word, from the last
-
-pub record Read (s : List ℕ) (w k : ℕ) : Type 0 where
-  pub few : k ≤ length s
-  pub so_far : w ≡ word (drop k s)
-
-pub read_start : (s : List ℕ) → Read s 0 (length s)
-unfolding word
-read_start s = record { few = omega arith; so_far = sym (ap word (drop_of_length-le s {i = length s} (omega arith))) }
-
-pub read_small : {s : List ℕ} {w k : ℕ} → Read s w k → length s ≤ 8 → ((i : ℕ) → get_or s i 0 < 256) → 0 < k → w * 256 < 2 ^ 64
-read_small {s} {w} {k} g e b h =
-    omega (arith, g.so_far, word_lt 7 (drop k s) (drop-bytes k s (bytes s b)) (omega (arith, length-drop k s)))
-
-pub read_turn : {s : List ℕ} {w k : ℕ} → Read s w k → 0 < k → Read s (bit_xor (get_or s (k - 1) 0) (w * 256)) (k - 1)
-unfolding word
-read_turn {s} {w} {k} g h =
-    let l : k - 1 < length s = omega (arith, g.few) in
-    let q : suc (k - 1) ≡ k = omega arith in
-    record {
-      few = omega (arith, g.few);
-      so_far =
-          ap (λ (x : ℕ). bit_xor (get_or s (k - 1) 0) (x * 256)) g.so_far
-          ∙ sym (ap word (drop-cons s (k - 1) 0 l ∙ ap (λ (j : ℕ). get_or s (k - 1) 0 ∷ drop j s) q));
-    }
-
-pub read_done : {s : List ℕ} {w k : ℕ} → Read s w k → k ≤ 0 → w ≡ word s
-read_done {s} {w} {k} g h =
-    let q : k ≡ 0 = omega arith in
-    g.so_far ∙ ap (λ (j : ℕ). word (drop j s)) q
+-- and four at the front
+pub four : (s : List ℕ) {w : ℕ} → 4 ≤ length s → ((k : ℕ) → get_or s k 0 < 256) → w ≡ from_le_bytes w32 (get_or s 0 0 ∷ get_or s 1 0 ∷ get_or s 2 0 ∷ get_or s 3 0 ∷ [])
+    → w ≡ word (take 4 s)
+four s {w} l h e =
+    let bs = get_or s 0 0 ∷ get_or s 1 0 ∷ get_or s 2 0 ∷ get_or s 3 0 ∷ [] in
+    let front : bs ++ drop 4 s ≡ s =
+    from s 0 _ {j = 1} (omega arith) (omega arith)
+    (from s 1 _ {j = 2} (omega arith) (omega arith) (from s 2 _ {j = 3} (omega arith) (omega arith) (from s 3 _ {j = 4} (omega arith) (omega arith) refl))) in
+    let sum : from_le_bytes w32 bs ≡ little bs = omega arith in
+    e ∙ sum ∙ sym (summed bs (h 0, (h 1, (h 2, (h 3, tt))))) ∙ ap (λ (t : List ℕ). word (take 4 t)) front

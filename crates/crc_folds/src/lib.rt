@@ -1,12 +1,13 @@
 // The register by words of eight bytes: each is folded into words behind it by shifts alone, and only the last two go through the table.
 #![tactic(auto)]
 
-ghost use Rattle.std.specs.Prelude.{◌≡◌, ◌+◌, ◌-◌, ◌*◌, ◌/◌, ◌≤◌, ◌%◌, length, take, drop};
+ghost use Rattle.std.specs.Prelude.{◌≡◌, ℕ, ◌<◌, ◌+◌, ◌-◌, ◌*◌, ◌/◌, ◌^◌, ◌≤◌, ◌%◌, length, take, drop};
 ghost use Rattle.std.specs.Int.Bits.{bit_xor};
 ghost use Rattle.crc.specs.Crc.{bytes_from};
 ghost use Rattle.crc.specs.Octets.{octets, word};
 ghost use Rattle.crc_nibbles.specs.Rows.{Rows};
-ghost use Rattle.crc_folds.specs.Waits.{register, far, near, folded, Fits, Waits};
+ghost use Rattle.crc_folds.specs.Waits.{register, far, near, folded, Waits};
+ghost use Rattle.crc_folds.specs.declared.Waiting.{Waiting};
 
 pub mod tables;
 
@@ -41,26 +42,21 @@ fn alone(a: u64) -> Waiting
     }
 }
 
-// Up to eight bytes, the first lowest.
-fn word_of(s: &[u8]) -> u64
-    requires { length s.now ≤ 8 }
-    ensures { result ≡ word s.now }
-{
-    let mut w: u64 = 0;
-    let mut k = s.len();
-    while 0 < k {
-        k -= 1;
-        w = (s[k] as u64) ^ (w * 256);
-    }
-    w
-}
-
-// Eight bytes at a place.
+// Eight bytes at a place, the first lowest.
 fn word_at(s: &[u8], i: usize) -> u64
     requires { i + 8 ≤ length s.now }
     ensures { result ≡ word (take 8 (drop i s.now)) }
 {
-    word_of(&s[i..i + 8])
+    u64::from_le_bytes([
+        s[i],
+        s[i + 1],
+        s[i + 2],
+        s[i + 3],
+        s[i + 4],
+        s[i + 5],
+        s[i + 6],
+        s[i + 7],
+    ])
 }
 
 // The first four bytes.
@@ -68,7 +64,7 @@ fn first_four(s: &[u8]) -> u32
     requires { 4 ≤ length s.now }
     ensures { result ≡ word (take 4 s.now) }
 {
-    word_of(&s[0..4]) as u32
+    u32::from_le_bytes([s[0], s[1], s[2], s[3]])
 }
 
 // The polynomial divides x^300 + x^155 + x^117 + x^89 + 1, so the next word, `w` with what waited for it, may as well be
@@ -122,13 +118,43 @@ fn settle(t: &[u32], f: Waiting, w: u64) -> Waiting
     }
 }
 
-// Four bytes go first where the size is four to seven above whole words, so that less than four are left in the end.
+// Four bytes go first where the size is four to seven above whole words, so that less than four are left in the end. Words are folded far as
+// long as five are left behind them, then near, as long as two are; the last go through their steps.
 fn words(t: &[u32], c: u32, s: &[u8]) -> u32
     requires { Rows t.now × (128 ≤ length t.now) }
     ensures { result ≡ bytes_from c s.now }
 {
     let i = s.len() / 4 % 2 * 4;
-    far_words(t, begun(t, c, s, i), s, i)
+    let begun = begun(t, c, s, i);
+    let (distant, j) = take_words(begun, s, i, 48, fold_far);
+    let (close, k) = take_words(distant, s, j, 24, fold_near);
+    let (rest, n) = take_words(close, s, k, 8, |f, w| settle(t, f, w));
+    crc_nibbles::bytes(t, rest.a as u32, &s[n..])
+}
+
+// Takes a word a turn, as long as so many bytes are left: what waits then, and the next byte's place.
+fn take_words<F: Fn(Waiting, u64) -> Waiting>(
+    f: Waiting,
+    s: &[u8],
+    i: usize,
+    least: usize,
+    step: F,
+) -> (Waiting, usize)
+    requires a_word { 8 ≤ least }
+    requires within { i ≤ length s.now }
+    requires callable { F.IsAlwaysCallable step }
+    requires keeps { (v j w : ℕ) (g r : Waiting) → least ≤ length s.now - j → Waits v s.now (register g) j → w < 2 ^ 64 → w ≡ word (take 8 (drop j s.now)) → F.post step g w r → Waits v s.now (register r) (j + 8) }
+    ensures waits { (v : ℕ) → Waits v s.now (register f) i → Waits v s.now (register result.0) result.1 }
+    ensures within { result.1 ≤ length s.now }
+    ensures few { length s.now - result.1 < least }
+{
+    let mut g = f;
+    let mut i = i;
+    while least <= s.len() - i {
+        g = step(g, word_at(s, i));
+        i += 8;
+    }
+    (g, i)
 }
 
 // What waits for the first whole word. The register with four bytes is the upper half of a word, which is folded where five
@@ -145,46 +171,4 @@ fn begun(t: &[u32], c: u32, s: &[u8], i: usize) -> Waiting
         return alone(crc_nibbles::four(t, x) as u64);
     }
     fold_far(alone(0), (x as u64) << 32)
-}
-
-// Folds a word a turn, as long as five are left behind it.
-fn far_words(t: &[u32], f: Waiting, s: &[u8], i: usize) -> u32
-    requires { Rows t.now × (128 ≤ length t.now) × (i ≤ length s.now) × Fits (register f) (length s.now - i) }
-    ensures { result ≡ bytes_from (register f) (drop i s.now) }
-{
-    let mut g = f;
-    let mut i = i;
-    while 48 <= s.len() - i {
-        g = fold_far(g, word_at(s, i));
-        i += 8;
-    }
-    near_words(t, g, s, i)
-}
-
-// Near the end, as long as two are left behind it.
-fn near_words(t: &[u32], f: Waiting, s: &[u8], i: usize) -> u32
-    requires { Rows t.now × (128 ≤ length t.now) × (i ≤ length s.now) × Fits (register f) (length s.now - i) }
-    ensures { result ≡ bytes_from (register f) (drop i s.now) }
-{
-    let mut g = f;
-    let mut i = i;
-    while 24 <= s.len() - i {
-        g = fold_near(g, word_at(s, i));
-        i += 8;
-    }
-    last_words(t, g, s, i)
-}
-
-// The words that are left, and what is less than a word.
-fn last_words(t: &[u32], f: Waiting, s: &[u8], i: usize) -> u32
-    requires { Rows t.now × (128 ≤ length t.now) × (i ≤ length s.now) × Fits (register f) (length s.now - i) }
-    ensures { result ≡ bytes_from (register f) (drop i s.now) }
-{
-    let mut g = f;
-    let mut i = i;
-    while 8 <= s.len() - i {
-        g = settle(t, g, word_at(s, i));
-        i += 8;
-    }
-    crc_nibbles::bytes(t, g.a as u32, &s[i..])
 }

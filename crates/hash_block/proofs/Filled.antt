@@ -1,44 +1,16 @@
--- A block that is filled from the front, and the first block of more bytes.
-use mathlib.Core.Path.{◌≡◌, refl, sym, ◌∙◌}
-use mathlib.Core.List.{List, ◌++◌}
-use Prim.Native.Nat.{ℕ, suc, ◌+◌, ◌-◌, ◌≤◌, ◌<◌}
-use native.Mathlib.Numerals.{add-one}
-use native.Mathlib.Omega.{arith}
-use lib.ListN.{length, take, get_or, set, replicate}
-use lib.Seq.{take-suc, take-length, set_at, take_all, length-take-le, append_snoc}
+-- Zeros whose front is overwritten with the first bytes of s.
+use Rattle.std.proofs.Common.{◌≡◌, ℕ, List, ◌++◌, length, take, drop, replicate, min, inl, inr, sym, ◌∙◌, arith}
+use Rattle.std.proofs.lemmas.Bool.{cases_lt}
+use Rattle.std.proofs.lemmas.List.{drop-replicate, take_all, append-nil}
 use Rattle.hash_block.specs.Block.{block_of}
 use Rattle.hash_block.specs.BlockLaws.{block_short, block_long}
 
--- i bytes of s stand before the zeros of a block
-pub record Filling (s b : List ℕ) (i : ℕ) : Type 0 where
-  pub some : i ≤ length s
-  pub fits : length s ≤ 64
-  pub sofar : b ≡ take i s ++ replicate (64 - i) 0
-
-pub filling_start : (s : List ℕ) → length s ≤ 64 → Filling s (replicate 64 0) 0
-filling_start s h = record { some = omega arith; fits = h; sofar = refl }
-
-pub filling_turn : {s b : List ℕ} {i : ℕ} → Filling s b i → i < length s → Filling s (set b i (get_or s i 0)) (i + 1)
-filling_turn {s} {b} {i} l h =
-    let e : 64 - i ≡ suc (63 - i) = omega (arith, l.fits) in
-    let d : 64 - suc i ≡ 63 - i = omega arith in
-    record {
-      some = omega arith;
-      fits = l.fits;
-      sofar =
-          rw (add-one, l.sofar, e, d, take-suc s i 0 h, append_snoc)
-          (set_at (take i s) 0 (replicate (63 - i) 0) (get_or s i 0) i (length-take-le i s (omega arith)));
-    }
-
-pub filling_done : {s b : List ℕ} {i : ℕ} → Filling s b i → length s ≤ i → b ≡ block_of s
-filling_done {s} {b} {i} l h =
-    let e : i ≡ length s = omega (arith, l.some) in
-    l.sofar ∙ rw (e, take-length) (sym (block_short s l.fits))
-
--- the first block of a longer list
-pub first_block : (s b : List ℕ) → 64 < length s → b ≡ block_of (take 64 s) → b ≡ block_of s
-first_block s b h e =
-    e
-    ∙ block_long (take 64 s) (omega (arith, length-take-le 64 s (omega arith)))
-    ∙ take_all 64 (take 64 s) (omega (arith, length-take-le 64 s (omega arith)))
-    ∙ sym (block_long s (omega arith))
+pub filled : (s b : List ℕ) (n : ℕ) → n ≡ min (length s) 64 → b ≡ take n s → b ++ drop n (replicate 64 0) ≡ block_of s
+filled s b n e d = elim (cases_lt (length s) 64) [
+  | inl h ↦
+      let p : n ≡ length s = omega (arith, e) in
+      rw (d, drop-replicate {X = ℕ} n 64 0, p, take_all (length s) s (omega arith)) (sym (block_short s (omega arith)))
+  | inr h ↦
+      let p : n ≡ 64 = omega (arith, e) in
+      rw (d, drop-replicate {X = ℕ} n 64 0, p) (append-nil (take 64 s) ∙ sym (block_long s h))
+]

@@ -1,14 +1,7 @@
 -- Two digests compared over all their bytes: what differs is gathered, and is nought at the end only if nothing differed.
-use mathlib.Core.Path.{◌≡◌, refl, sym, ap, ◌∙◌}
-use mathlib.Core.Bool.{Bool, true, false, ◌&&◌}
-use mathlib.Core.List.{List, [], ◌∷◌}
-use Prim.Native.Nat.{ℕ, suc, ◌+◌, ◌≤◌, ◌<◌}
-use native.Mathlib.Numerals.{add-one}
-use native.Mathlib.Omega.{arith}
+use Rattle.std.proofs.Common.{◌≡◌, ℕ, suc, Bool, true, false, ◌&&◌, List, [], ◌∷◌, length, eqb, ◌⊎◌, inl, inr, refl, sym, ap, ◌∙◌, arith}
+use Rattle.std.proofs.lemmas.List.{nil_from_length}
 use borrow.Author.Tests.{eqb-true, eqb-false, eq-eqb, ne_eqb}
-use lib.ListN.{length, drop, get_or, drop_of_length-le}
-use lib.Seq.{drop-cons}
-use lib.Dec.{eqb}
 use lib.Bits.{bit_or, bit_xor, or_zero_l, or_add_and, and_le_l, and_le_r, xor_self}
 use Rattle.base.specs.XorLaws.{xor_eq}
 use Rattle.base.specs.SameLaws.{same_eq}
@@ -43,39 +36,30 @@ same_cons : (x y : ℕ) (s t : List ℕ) → same (x ∷ s) (y ∷ t) ≡ eqb x 
 unfolding same
 same_cons x y s t = refl
 
--- i bytes are compared, and x gathers what differs
-pub record Comparing (a b : List ℕ) (x i : ℕ) : Type 0 where
-  pub few : i ≤ 20
-  pub size : length a ≡ 20
-  pub other : length b ≡ 20
-  pub left : eqb x 0 && same (drop i a) (drop i b) ≡ same a b
+-- x gathers what differs before s and t
+pub record Comparing (a b : List ℕ) (x : ℕ) (s t : List ℕ) : Type 0 where
+  pub sizes : length s ≡ length t
+  pub left : eqb x 0 && same s t ≡ same a b
 
-pub comparing_start : (a b : List ℕ) → length a ≡ 20 → length b ≡ 20 → Comparing a b 0 0
-comparing_start a b e d = record { few = omega arith; size = e; other = d; left = refl }
+pub comparing_start : (a b : List ℕ) → length a ≡ length b → Comparing a b 0 a b
+comparing_start a b e = record { sizes = e; left = refl }
 
-pub comparing_turn : {a b : List ℕ} {x i : ℕ} → Comparing a b x i → i < 20 → Comparing a b (bit_or x (bit_xor (get_or a i 0) (get_or b i 0))) (i + 1)
-comparing_turn {a} {b} {x} {i} g h =
-    let ha : i < length a = omega (arith, g.size) in
-    let hb : i < length b = omega (arith, g.other) in
-    let p = get_or a i 0 in
-    let q = get_or b i 0 in
-    let step : same (drop i a) (drop i b) ≡ eqb p q && same (drop (suc i) a) (drop (suc i) b) =
-    rw (drop-cons a i 0 ha, drop-cons b i 0 hb) (same_cons p q (drop (suc i) a) (drop (suc i) b)) in
+pub comparing_turn : {a b s t u v : List ℕ} {x p q : ℕ} → Comparing a b x s t → s ≡ p ∷ u → t ≡ q ∷ v → Comparing a b (bit_or x (bit_xor p q)) u v
+comparing_turn {a} {b} {s} {t} {u} {v} {x} {p} {q} g d e =
+    let step : same s t ≡ eqb p q && same u v = rw (d, e) (same_cons p q u v) in
+    let l : suc (length u) ≡ suc (length v) = sym (ap length d) ∙ g.sizes ∙ ap length e in
     record {
-      few = omega arith;
-      size = g.size;
-      other = g.other;
-      left =
-          rw (add-one, gathered x p q, and_assoc (eqb x 0) (eqb p q) (same (drop (suc i) a) (drop (suc i) b)))
-          (ap (λ (c : Bool). eqb x 0 && c) (sym step) ∙ g.left);
+      sizes = omega (arith, l);
+      left = rw (gathered x p q, and_assoc (eqb x 0) (eqb p q) (same u v)) (ap (λ (c : Bool). eqb x 0 && c) (sym step) ∙ g.left);
     }
 
-pub comparing_done : {a b : List ℕ} {x i : ℕ} → Comparing a b x i → 20 ≤ i → eqb x 0 ≡ same a b
+pub comparing_done : {a b s t : List ℕ} {x : ℕ} → Comparing a b x s t → (s ≡ []) ⊎ (t ≡ []) → eqb x 0 ≡ same a b
 unfolding same
-comparing_done {a} {b} {x} {i} g h =
-    let da : drop i a ≡ [] = drop_of_length-le a {i = i} (omega (arith, g.size)) in
-    let db : drop i b ≡ [] = drop_of_length-le b {i = i} (omega (arith, g.other)) in
-    sym (and_true (eqb x 0)) ∙ (rw (da, db) at g.left)
+comparing_done {a} {b} {s} {t} {x} g h =
+    let n : length s ≡ 0 = elim h [ inl e ↦ ap length e | inr e ↦ g.sizes ∙ ap length e ] in
+    let d : s ≡ [] = nil_from_length s n in
+    let e : t ≡ [] = nil_from_length t (sym g.sizes ∙ n) in
+    sym (and_true (eqb x 0)) ∙ (rw (d, e) at g.left)
 
 -- lists of two sizes differ
 pub sizes_differ : (a b : List ℕ) → length a ≡ 20 → (length b ≡ 20 → ⊥) → false ≡ same a b

@@ -1,10 +1,12 @@
 -- A message with another number in its length field, hashed with only its first block copied.
 use mathlib.Core.Path.{◌≡◌, refl, sym, ap, ◌∙◌}
 use mathlib.Core.List.{List, [], ◌∷◌, ◌++◌}
-use Prim.Native.Nat.{ℕ, zero, suc, ◌+◌, ◌-◌, ◌/◌, ◌%◌, ◌≤◌, ◌<◌}
+use Prim.Native.Nat.{ℕ, zero, suc, ◌+◌, ◌-◌, ◌/◌, ◌%◌, ◌^◌, ◌≤◌, ◌<◌}
 use native.Mathlib.Omega.{arith}
-use lib.ListN.{length, take, drop, set, replicate, length-drop, take-append-drop}
+use lib.ListN.{length, take, drop, set, replicate, length-drop, take-append-drop, get_or}
 use lib.Seq.{take_at, take_all, drop-set-lt}
+use Rattle.std.proofs.Common.{w16}
+use Rattle.std.specs.Int.{to_be_bytes}
 use Rattle.sha1_digest.specs.declared.compression.State.{State}
 use Rattle.sha1_digest.specs.Compression.{start, compress, run}
 use Rattle.sha1_digest.specs.CompressionLaws.{run_one}
@@ -18,9 +20,10 @@ use Rattle.big_endian.specs.NumbersLaws.{length-with_length}
 use Rattle.hmac.specs.Hmac.{key_block, xored, hmac_of}
 use Rattle.hmac.proofs.Keys.{both}
 
-pub relabelled : (m : List ℕ) (n : ℕ) {b : List ℕ} → b ≡ block_of m → set (set b 2 (n / 256)) 3 (n % 256) ≡ with_length (block_of m) n
+pub relabelled : (m : List ℕ) (n : ℕ) {b y : List ℕ} → n < 2 ^ 16 → b ≡ block_of m → y ≡ to_be_bytes w16 n
+    → set (set b 2 (get_or y 0 0)) 3 (get_or y 1 0) ≡ with_length (block_of m) n
 unfolding with_length
-relabelled m n e = rw e
+relabelled m n {b} {y} h e d = let k : n / 256 % 256 ≡ n / 256 = omega arith in rw (e, d, k) refl
 
 -- a stored element and a front go in either order
 take-set : (k : ℕ) (l : List ℕ) (i x : ℕ) → take k (set l i x) ≡ set (take k l) i x
@@ -39,12 +42,11 @@ drop-with m n = drop-set-lt 64 (set m 2 (n / 256)) 3 (n % 256) (omega arith) ∙
 
 -- a message of less than a block
 pub short : (m : List ℕ) (n : ℕ) (h : State) {b r : List ℕ} → length m < 64 → b ≡ with_length (block_of m) n
-    → r ≡ finished h (64 + length (take (length m - 0) b)) (take (length m - 0) b) → r ≡ finished h (64 + length m) (with_length m n)
+    → r ≡ finished h (64 + length (take (length m) b)) (take (length m) b) → r ≡ finished h (64 + length m) (with_length m n)
 short m n h {b} {r} k e f =
     let z = replicate {A = ℕ} (64 - length m) 0 in
-    let p : length m - 0 ≡ length m = omega arith in
-    let t : take (length m - 0) b ≡ with_length m n =
-    ap (λ (j : ℕ). take j b) p ∙ ap (take (length m)) e ∙ take-with (length m) (block_of m) n
+    let t : take (length m) b ≡ with_length m n =
+    ap (take (length m)) e ∙ take-with (length m) (block_of m) n
     ∙ ap (λ (l : List ℕ). with_length l n) (ap (take (length m)) (block_short m (omega arith)) ∙ take_at m z (length m) refl) in
     f ∙ rw (t, length-with_length)
 
@@ -68,11 +70,9 @@ signed k m n {b} {i} {r} {h} eb eh ei er =
 
 -- a part of the datagram, and all of it
 pub part : (k d : List ℕ) (p n : ℕ) {b i r : List ℕ} {h : State} → b ≡ key_block k → h ≡ compress (xored b 0x36) start
-    → i ≡ finished h (64 + length (take (p - 0) d)) (with_length (take (p - 0) d) n) → r ≡ sha1 (xored b 0x5c ++ i)
+    → i ≡ finished h (64 + length (take p d)) (with_length (take p d) n) → r ≡ sha1 (xored b 0x5c ++ i)
     → r ≡ hmac_of k (with_length (take p d) n)
-part k d p n eb eh ei er =
-    let e : p - 0 ≡ p = omega arith in
-    signed k (take (p - 0) d) n eb eh ei er ∙ ap (λ (j : ℕ). hmac_of k (with_length (take j d) n)) e
+part k d p n eb eh ei er = signed k (take p d) n eb eh ei er
 
 pub all : (k d : List ℕ) (p n : ℕ) {b i r : List ℕ} {h : State} → length d < p → b ≡ key_block k → h ≡ compress (xored b 0x36) start
     → i ≡ finished h (64 + length d) (with_length d n) → r ≡ sha1 (xored b 0x5c ++ i) → r ≡ hmac_of k (with_length (take p d) n)

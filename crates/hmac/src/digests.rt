@@ -9,9 +9,9 @@ pub fn same_digest(a: [u8; 20], b: &[u8]) -> bool
     if b.len() != 20 {
         return false;
     }
-    let mut differing: u8 = 0;
-    for i in 0..20 {
-        differing = differing | (a[i] ^ b[i]);
+    let mut differing = 0;
+    for (x, y) in a.iter().zip(b) {
+        differing |= *x ^ *y;
     }
     differing == 0
 }

@@ -9,7 +9,8 @@ ghost use Rattle.sha1_digest.specs.Sha1.{sha1};
 ghost use Rattle.big_endian.specs.Numbers.{with_length};
 ghost use Rattle.hmac.specs.Hmac as spec;
 
-use sha1_digest::compression::State;
+use sha1_digest::compression::{self, State};
+use sha1_digest::padding;
 
 pub mod digests;
 
@@ -20,8 +21,7 @@ fn key_block(k: &[u8]) -> [u8; 64]
     if k.len() <= 64 {
         hash_block::block(k)
     } else {
-        let d = sha1_digest::hash(k);
-        hash_block::block(&d)
+        hash_block::block(&sha1_digest::hash(k))
     }
 }
 
@@ -29,26 +29,25 @@ fn key_block(k: &[u8]) -> [u8; 64]
 fn xored(k: [u8; 64], x: u8) -> [u8; 64]
     ensures { result ≡ spec.xored k x }
 {
-    let mut b = k;
-    for i in 0..64 {
-        b[i] = b[i] ^ x;
+    let mut r = k;
+    for b in &mut r {
+        *b ^= x;
     }
-    b
+    r
 }
 
 // The hash value after the key's block xored with x.
 fn keyed(k: [u8; 64], x: u8) -> State
     ensures { result ≡ compress (spec.xored k x) start }
 {
-    let b = xored(k, x);
-    sha1_digest::compression::absorb(sha1_digest::compression::START, &b)
+    compression::absorb(compression::START, &xored(k, x))
 }
 
 // The outer hash, over the inner digest m.
 fn outer(k: [u8; 64], m: [u8; 20]) -> [u8; 20]
     ensures { result ≡ sha1 (spec.xored k 0x5c ++ m) }
 {
-    sha1_digest::padding::finish(keyed(k, 0x5c), 1, &m)
+    padding::finish(keyed(k, 0x5c), 1, &m)
 }
 
 // HMAC-SHA-1 of the message m under the key k.
@@ -56,7 +55,7 @@ pub fn hmac(k: &[u8], m: &[u8]) -> [u8; 20]
     ensures { result ≡ spec.hmac_of k.now m.now }
 {
     let b = key_block(k);
-    outer(b, sha1_digest::padding::finish(keyed(b, 0x36), 1, m))
+    outer(b, padding::finish(keyed(b, 0x36), 1, m))
 }
 
 // The first block of m, with n in the length field.
@@ -64,8 +63,7 @@ fn relabelled(m: &[u8], n: u16) -> [u8; 64]
     ensures { result ≡ with_length (block_of m.now) n }
 {
     let mut b = hash_block::block(m);
-    b[2] = (n / 256) as u8;
-    b[3] = (n % 256) as u8;
+    [b[2], b[3]] = n.to_be_bytes();
     b
 }
 
@@ -74,11 +72,10 @@ fn inner(h: State, m: &[u8], n: u16) -> [u8; 20]
     ensures { result ≡ finished h (64 + length m.now) (with_length m.now n) }
 {
     let b = relabelled(m, n);
-    let p = m.len();
-    if p < 64 {
-        sha1_digest::padding::finish(h, 1, &b[0..p])
+    if m.len() < 64 {
+        padding::finish(h, 1, &b[..m.len()])
     } else {
-        sha1_digest::padding::finish(sha1_digest::compression::absorb(h, &b), 2, &m[64..])
+        padding::finish(compression::absorb(h, &b), 2, &m[64..])
     }
 }
 
@@ -89,7 +86,7 @@ pub fn hmac_front(k: &[u8], d: &[u8], p: usize, n: u16) -> [u8; 20]
     let b = key_block(k);
     let h = keyed(b, 0x36);
     if p <= d.len() {
-        outer(b, inner(h, &d[0..p], n))
+        outer(b, inner(h, &d[..p], n))
     } else {
         outer(b, inner(h, d, n))
     }

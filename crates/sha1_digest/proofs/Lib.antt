@@ -1,5 +1,4 @@
 pub mod Padded
-mod Steps
 mod Words
 mod Twenties
 mod Taken

@@ -1,7 +1,9 @@
 -- The last blocks of a message: what is left of it, the padding, the count.
-use Rattle.std.proofs.Common.{◌≡◌, ℕ, suc, ◌+◌, ◌-◌, ◌*◌, ◌/◌, ◌%◌, ◌^◌, ◌<◌, ◌≤◌, List, [], ◌∷◌, ◌++◌, length, take, drop, set, replicate, sym, ap, ◌∙◌, append_assoc, append-nil, arith, length-append, length-drop, drop_of_length-le, take_all, take_at}
-use lib.ListN.{length-replicate, replicate-append-replicate}
-use lib.Seq.{sets-eq, set-append_seam}
+use Rattle.std.proofs.Common.{◌≡◌, ℕ, suc, ◌+◌, ◌-◌, ◌*◌, ◌/◌, ◌%◌, ◌^◌, ◌<◌, ◌≤◌, List, [], ◌∷◌, ◌++◌, length, take, drop, set, replicate, sym, refl, ap, ◌∙◌, append_assoc, append-nil, arith, length-append, length-drop, take_at, w64}
+use Rattle.std.specs.Int.{to_be_bytes}
+use Rattle.std.proofs.lemmas.List.{drop_all, length-replicate, replicate-append-replicate}
+use borrow.Rule.Slice.PartMut.{put_mid}
+use Rattle.std.proofs.Math.Seq.{set-append_seam}
 use Rattle.sha1_digest.specs.declared.compression.State.{State}
 use Rattle.sha1_digest.specs.Compression.{run}
 use Rattle.sha1_digest.specs.CompressionLaws.{run_behind, run_on}
@@ -9,15 +11,16 @@ use Rattle.sha1_digest.specs.Finished.{count_of, padding, digest, finished}
 use Rattle.hash_block.specs.Block.{block_of}
 use Rattle.hash_block.specs.BlockLaws.{block_short}
 
--- the count of bits, modulo 2 ^ 64 with no product above it
-pub bits : (n : ℕ) → n % 2305843009213693952 * 8 ≡ n * 8 % 2 ^ 64
-bits n = omega arith
-
--- eight bytes stored at a block's end
-pub stored8 : (b : List ℕ) (x₀ x₁ x₂ x₃ x₄ x₅ x₆ x₇ : ℕ) → length b ≡ 64
-    → set (set (set (set (set (set (set (set b 56 x₀) 57 x₁) 58 x₂) 59 x₃) 60 x₄) 61 x₅) 62 x₆) 63 x₇ ≡ take 56 b ++ (x₀ ∷ x₁ ∷ x₂ ∷ x₃ ∷ x₄ ∷ x₅ ∷ x₆ ∷ x₇ ∷ [])
-stored8 b x₀ x₁ x₂ x₃ x₄ x₅ x₆ x₇ e =
-    sets-eq (x₀ ∷ x₁ ∷ x₂ ∷ x₃ ∷ x₄ ∷ x₅ ∷ x₆ ∷ x₇ ∷ []) b 56 (omega arith) ∙ rw (drop_of_length-le b {i = 64} (omega arith), append-nil)
+-- the count stored at a block's end
+pub counted : (b : List ℕ) (n : ℕ) {y : List ℕ} → length b ≡ 64 → y ≡ to_be_bytes w64 (n * 8 % 2 ^ 64) → put_mid 56 8 b y ≡ take 56 b ++ count_of n
+unfolding count_of
+counted b n {y} l e =
+    let k = n * 8 % 2 ^ 64 in
+    let over : drop 8 (drop 56 b) ≡ [] = drop_all 8 (drop 56 b) (omega (arith, length-drop 56 b)) in
+    let d₇ : k / 72057594037927936 ≡ k / 4294967296 / 16777216 = omega arith in
+    let d₆ : k / 281474976710656 ≡ k / 4294967296 / 65536 = omega arith in
+    let d₅ : k / 1099511627776 ≡ k / 4294967296 / 256 = omega arith in
+    rw (over, append-nil y, e, d₇, d₆, d₅) refl
 
 -- what is left of a message of n bytes, with the padding's first byte behind it, fits a block
 module _ (s : List ℕ) (n : ℕ) (h : State) (e : length s ≡ n % 64) where
@@ -57,12 +60,9 @@ module _ (s : List ℕ) (n : ℕ) (h : State) (e : length s ≡ n % 64) where
       ∙ sym (ap (λ (l : List ℕ). run l h) whole ∙ run_behind a q h (simp (length-append, length-replicate) (omega arith)))
 
 -- the whole blocks, and then the last
-pub ran : (s : List ℕ) (n : ℕ) (h : State) {g r : State} → g ≡ run s h
-    → r ≡ run (take (length s - length s / 64 * 64) (drop (length s / 64 * 64) s) ++ padding n) g → r ≡ run (s ++ padding n) h
-ran s n h {g} {r} e f =
-    let k = length s / 64 * 64 in
-    let d : take (length s - k) (drop k s) ≡ drop k s = take_all (length s - k) (drop k s) (omega (arith, length-drop k s)) in
-    f ∙ rw (d, e) (sym (run_on s (padding n) h))
+pub ran : (s : List ℕ) (n : ℕ) (h : State) {g r : State} {t : List ℕ} → g ≡ run s h → t ≡ drop (length s / 64 * 64) s → r ≡ run (t ++ padding n) g
+    → r ≡ run (s ++ padding n) h
+ran s n h e d f = f ∙ rw (d, e) (sym (run_on s (padding n) h))
 
 -- the digest
 pub digested : (h : State) (n : ℕ) (s : List ℕ) {g : State} {r : List ℕ} → g ≡ run (s ++ padding n) h → r ≡ digest g → r ≡ finished h n s

@@ -1,54 +1,41 @@
 -- The rounds, twenty at a time.
-use Rattle.std.proofs.Common.{◌≡◌, ℕ, zero, suc, ◌+◌, ◌-◌, ◌<◌, ◌≤◌, List, get_or, sym, ap, ◌∙◌, add-one, arith, le-ltb, lt-ltb}
+use Rattle.std.proofs.Common.{◌≡◌, ℕ, zero, suc, ◌+◌, ◌-◌, ◌%◌, ◌<◌, ◌≤◌, List, get_or, take, drop, inl, inr, sym, refl, ap, ◌∙◌, arith, le-ltb, lt-ltb}
+use Rattle.std.specs.Prelude.{nat_lt}
+use Rattle.std.proofs.lemmas.Bool.{cases_lt}
+use Rattle.std.proofs.lemmas.List.{get_or-take, get_or-drop}
 use Rattle.sha1_digest.specs.declared.compression.State.{State}
-use Rattle.sha1_digest.specs.Compression.{ch, parity, maj, mix_of, constant_of, round_by, round, rounds, compress, schedule, sum}
+use Rattle.sha1_digest.specs.Compression.{mix_of, constant_of, round_by, round, rounds, compress, schedule, sum}
 
--- the rounds up to t are done of the twenty from `from` on
-pub record Turning (w : List ℕ) (from : ℕ) (h s : State) (t : ℕ) : Type 0 where
-  pub low : from ≤ t
-  pub high : t ≤ from + 20
-  pub left : rounds w t (from + 20 - t) s ≡ rounds w from 20 h
+-- i of the twenty rounds from `from` on are done
+pub record Turning (w : List ℕ) (from : ℕ) (h s : State) (i : ℕ) : Type 0 where
+  pub high : i ≤ 20
+  pub left : rounds w (from + i) (20 - i) s ≡ rounds w from 20 h
 
-pub turning_start : (w : List ℕ) (from : ℕ) (h : State) → Turning w from h h from
-turning_start w from h =
-    let e : from + 20 - from ≡ 20 = omega arith in
-    record { low = omega arith; high = omega arith; left = rw e }
+pub turning_start : (w : List ℕ) (from : ℕ) (h : State) → Turning w from h h 0
+turning_start w from h = let e : from + 0 ≡ from = omega arith in record { high = omega arith; left = rw e }
 
-turn : {w : List ℕ} {from t : ℕ} {h s r : State} → Turning w from h s t → t < from + 20 → r ≡ round t (get_or w t 0) s → Turning w from h r (t + 1)
+same_side : (from i n : ℕ) → from % 20 ≡ 0 → n % 20 ≡ 0 → i < 20 → nat_lt (from + i) n ≡ nat_lt from n
+same_side from i n e d h = elim (cases_lt from n) [
+  | inl p ↦ lt-ltb (from + i) n (omega arith) ∙ sym (lt-ltb from n p)
+  | inr p ↦ le-ltb (from + i) n (omega arith) ∙ sym (le-ltb from n p)
+]
+
+-- a turn: the round's function and constant are those of the first of the twenty
+pub turn : {w : List ℕ} {from i f k : ℕ} {h s r : State} → Turning w from h s i → i < 20 → from % 20 ≡ 0
+    → f ≡ mix_of from s.b s.c s.d → k ≡ constant_of from → r ≡ round_by f k (get_or (take (from + 20 - from) (drop from w)) i 0) s → Turning w from h r (i + 1)
+unfolding rounds round mix_of constant_of
+turn {w} {from} {i} {f} {k} {h} {s} {r} g l m e c q =
+    let d : 20 - i ≡ suc (20 - (i + 1)) = omega arith in
+    let p : from + (i + 1) ≡ suc (from + i) = omega arith in
+    let x : get_or (take (from + 20 - from) (drop from w)) i 0 ≡ get_or w (from + i) 0 =
+    get_or-take (from + 20 - from) (drop from w) i 0 (omega arith) ∙ get_or-drop from w i 0 in
+    let turned : r ≡ round (from + i) (get_or w (from + i) 0) s =
+    q ∙ rw (e, c, x, same_side from i 20 m refl l, same_side from i 40 m refl l, same_side from i 60 m refl l) in
+    record { high = omega arith; left = rw (p, turned) (sym (ap (λ (n : ℕ). rounds w (from + i) n s) d) ∙ g.left) }
+
+pub turning_done : {w : List ℕ} {from i : ℕ} {h s : State} → Turning w from h s i → 20 ≤ i → s ≡ rounds w from 20 h
 unfolding rounds
-turn {w} {from} {t} {h} {s} {r} g k e =
-    let d : from + 20 - t ≡ suc (from + 20 - suc t) = omega arith in
-    record { low = omega (arith, g.low); high = omega arith; left = rw (add-one, e) (sym (ap (λ (n : ℕ). rounds w t n s) d) ∙ g.left) }
-
-pub turning_done : {w : List ℕ} {from t : ℕ} {h s : State} → Turning w from h s t → from + 20 ≤ t → s ≡ rounds w from 20 h
-unfolding rounds
-turning_done {w} {from} {t} {h} {s} g k = let e : from + 20 - t ≡ 0 = omega arith in sym (ap (λ (n : ℕ). rounds w t n s) e) ∙ g.left
-
--- a turn of each twenty: the round's function and constant are those of its number
-pub turn_0 : {w : List ℕ} {t f : ℕ} {h s r : State} → Turning w 0 h s t → t < 20
-    → f ≡ ch s.b s.c s.d → r ≡ round_by f 0x5a827999 (get_or w t 0) s → Turning w 0 h r (t + 1)
-unfolding round mix_of constant_of
-turn_0 {w} {t} {f} {h} {s} {r} g k e d = turn g k (d ∙ rw (e, lt-ltb t 20 k))
-
-pub turn_20 : {w : List ℕ} {t f : ℕ} {h s r : State} → Turning w 20 h s t → t < 40
-    → f ≡ parity s.b s.c s.d → r ≡ round_by f 0x6ed9eba1 (get_or w t 0) s → Turning w 20 h r (t + 1)
-unfolding round mix_of constant_of
-turn_20 {w} {t} {f} {h} {s} {r} g k e d = turn g k (d ∙ rw (e, le-ltb t 20 g.low, lt-ltb t 40 k))
-
-pub turn_40 : {w : List ℕ} {t f : ℕ} {h s r : State} → Turning w 40 h s t → t < 60
-    → f ≡ maj s.b s.c s.d → r ≡ round_by f 0x8f1bbcdc (get_or w t 0) s → Turning w 40 h r (t + 1)
-unfolding round mix_of constant_of
-turn_40 {w} {t} {f} {h} {s} {r} g k e d =
-    let p : 20 ≤ t = omega (arith, g.low) in
-    turn g k (d ∙ rw (e, le-ltb t 20 p, le-ltb t 40 g.low, lt-ltb t 60 k))
-
-pub turn_60 : {w : List ℕ} {t f : ℕ} {h s r : State} → Turning w 60 h s t → t < 80
-    → f ≡ parity s.b s.c s.d → r ≡ round_by f 0xca62c1d6 (get_or w t 0) s → Turning w 60 h r (t + 1)
-unfolding round mix_of constant_of
-turn_60 {w} {t} {f} {h} {s} {r} g k e d =
-    let p : 20 ≤ t = omega (arith, g.low) in
-    let q : 40 ≤ t = omega (arith, g.low) in
-    turn g k (d ∙ rw (e, le-ltb t 20 p, le-ltb t 40 q, le-ltb t 60 g.low))
+turning_done {w} {from} {i} {h} {s} g k = let e : 20 - i ≡ 0 = omega arith in sym (ap (λ (n : ℕ). rounds w (from + i) n s) e) ∙ g.left
 
 -- some rounds, and then others
 rounds_add : (w : List ℕ) (t m n : ℕ) (s : State) → rounds w t (m + n) s ≡ rounds w (t + m) n (rounds w t m s)

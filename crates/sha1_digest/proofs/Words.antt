@@ -1,5 +1,7 @@
 -- The schedule in an array: its own words loaded, then the others stored behind them.
-use Rattle.std.proofs.Common.{◌≡◌, ℕ, zero, suc, ◌+◌, ◌-◌, ◌*◌, ◌<◌, ◌≤◌, List, length, take, set, replicate, sym, refl, ap, ◌∙◌, add-one, arith, length-set, take_all, get_or-take, take-suc-set, le-ltb, lt-ltb}
+use Rattle.std.proofs.Common.{◌≡◌, ℕ, zero, suc, ◌+◌, ◌-◌, ◌*◌, ◌<◌, ◌≤◌, List, [], length, get_or, take, drop, set, replicate, sym, refl, ap, ◌∙◌, add-one, arith, length-set, take_all, get_or-take, get_or-drop, drop-drop, take-suc-set, le-ltb, lt-ltb, w32}
+use Rattle.std.specs.Int.{from_be_bytes}
+use Rattle.std.specs.Simd.{first_chunks}
 use Rattle.sha1_digest.specs.Compression.{schedule, next_word, mixed, word_at, extended}
 
 -- one word more
@@ -22,6 +24,21 @@ late s w t h =
       get_or-take t w (t - 16) 0 (omega arith),
     )
 
+-- the four bytes of each word
+chunk : (k t : ℕ) (s : List ℕ) → t < k → get_or (first_chunks 4 k s) t [] ≡ take 4 (drop (t * 4) s)
+chunk zero t s h = absurd (omega arith)
+chunk (suc k) zero s h = refl
+chunk (suc k) (suc t) s h =
+    let d : suc t * 4 ≡ 4 + t * 4 = omega arith in
+    rw d (chunk k t (drop 4 s) (omega arith) ∙ ap (take 4) (drop-drop (t * 4) 4 s))
+
+word_of_chunk : (s : List ℕ) (t : ℕ) → length s ≡ 64 → t < 16 → from_be_bytes w32 (get_or (first_chunks 4 16 s) t []) ≡ word_at s (t * 4)
+word_of_chunk s t n h =
+    let at : (i : ℕ) → i < 4 → get_or (take 4 (drop (t * 4) s)) i 0 ≡ get_or s (t * 4 + i) 0 =
+    λ i l. get_or-take 4 (drop (t * 4) s) i 0 l ∙ get_or-drop (t * 4) s i 0 in
+    let z : t * 4 + 0 ≡ t * 4 = omega arith in
+    rw (chunk 16 t s h, at 0 (omega arith), at 1 (omega arith), at 2 (omega arith), at 3 (omega arith), z) (omega arith)
+
 -- t of the block's own words are loaded
 pub record Loading (s w : List ℕ) (t : ℕ) : Type 0 where
   pub few : t ≤ 16
@@ -32,12 +49,16 @@ pub loading_start : (s : List ℕ) → Loading s (replicate 80 0) 0
 unfolding schedule
 loading_start s = record { few = omega arith; size = refl; sofar = refl }
 
-pub loading_turn : {s w : List ℕ} {t x : ℕ} → Loading s w t → t < 16 → x ≡ word_at s (t * 4) → Loading s (set w t x) (t + 1)
-loading_turn {s} {w} {t} {x} l h e =
+pub loading_turn : {s w : List ℕ} {t x : ℕ} {bytes : List (List ℕ)} → Loading s w t → length s ≡ 64 → bytes ≡ first_chunks 4 16 s → t < 16
+    → x ≡ from_be_bytes w32 (get_or bytes t []) → Loading s (set w t x) (t + 1)
+loading_turn {s} {w} {t} {x} {bytes} l n p h e =
     record {
       few = omega arith;
       size = length-set w t x ∙ l.size;
-      sofar = rw add-one (more s w t x (omega (arith, l.size)) l.sofar (e ∙ own s (take t w) t h));
+      sofar =
+          rw add-one (
+          more s w t x (omega (arith, l.size)) l.sofar (e ∙ rw p (word_of_chunk s t n h) ∙ own s (take t w) t h)
+          );
     }
 
 pub loading_done : {s w : List ℕ} {t : ℕ} → Loading s w t → 16 ≤ t → take 16 w ≡ schedule s 16

@@ -1,5 +1,5 @@
 // SHA-1's hash value (FIPS 180-4), and what blocks make of it.
-ghost use Rattle.std.specs.Prelude.{◌≡◌, ◌+◌, ◌<◌, ◌≤◌, length, take};
+ghost use Rattle.std.specs.Prelude.{◌≡◌, ℕ, ◌+◌, ◌%◌, ◌<◌, ◌≤◌, take};
 ghost use Rattle.sha1_digest.specs.Compression as spec;
 
 // A hash value's five words.
@@ -21,42 +21,21 @@ pub const START: State = State {
     e: 0xc3d2e1f0,
 };
 
-fn rotl(x: u32, n: u32) -> u32
-    requires { (1 ≤ n) × (n < 32) }
-    ensures { result ≡ spec.rotl n x }
-{
-    (x << n) | (x >> (32 - n))
-}
-
-fn wide(x: u8) -> u32
-    ensures { (result ≡ x) × (result < 256) }
-{
-    x as u32
-}
-
-fn word_at(s: &[u8], i: usize) -> u32
-    requires { i + 4 ≤ length s.now }
-    ensures { result ≡ spec.word_at s.now i }
-{
-    ((wide(s[i]) * 256 + wide(s[i + 1])) * 256 + wide(s[i + 2])) * 256 + wide(s[i + 3])
-}
-
 // Word t of a schedule that has the words before it.
 fn next(w: &[u32; 80], t: usize) -> u32
     requires { (16 ≤ t) × (t < 80) }
     ensures { result ≡ spec.mixed w.now t }
 {
-    rotl(w[t - 3] ^ w[t - 8] ^ w[t - 14] ^ w[t - 16], 1)
+    (w[t - 3] ^ w[t - 8] ^ w[t - 14] ^ w[t - 16]).rotate_left(1)
 }
 
-// The schedule's first sixteen words, those of the block s.
-fn own_words(s: &[u8]) -> [u32; 80]
-    requires { length s.now ≡ 64 }
-    ensures { take 16 result ≡ spec.schedule s.now 16 }
+// The schedule's first sixteen words, those of the block.
+fn own_words(block: &[u8; 64]) -> [u32; 80]
+    ensures { take 16 result ≡ spec.schedule block.now 16 }
 {
     let mut w = [0; 80];
-    for t in 0..16 {
-        w[t] = word_at(s, t * 4);
+    for (t, bytes) in block.as_chunks::<4>().0.iter().enumerate() {
+        w[t] = u32::from_be_bytes(*bytes);
     }
     w
 }
@@ -72,12 +51,11 @@ fn sixteen_more(w: &mut [u32; 80], from: usize)
     }
 }
 
-// The schedule of the block s.
-fn schedule(s: &[u8]) -> [u32; 80]
-    requires { length s.now ≡ 64 }
-    ensures { result ≡ spec.schedule s.now 80 }
+// The schedule of a block.
+fn schedule(block: &[u8; 64]) -> [u32; 80]
+    ensures { result ≡ spec.schedule block.now 80 }
 {
-    let mut w = own_words(s);
+    let mut w = own_words(block);
     sixteen_more(&mut w, 16);
     sixteen_more(&mut w, 32);
     sixteen_more(&mut w, 48);
@@ -107,55 +85,37 @@ fn majority(x: u32, y: u32, z: u32) -> u32
 fn round(s: State, f: u32, k: u32, x: u32) -> State
     ensures { result ≡ spec.round_by f k x s }
 {
-    let p = std::num::wrapping_add_u32(rotl(s.a, 5), f);
-    let q = std::num::wrapping_add_u32(p, s.e);
-    let r = std::num::wrapping_add_u32(q, k);
     State {
-        a: std::num::wrapping_add_u32(r, x),
+        a: s.a
+            .rotate_left(5)
+            .wrapping_add(f)
+            .wrapping_add(s.e)
+            .wrapping_add(k)
+            .wrapping_add(x),
         b: s.a,
-        c: rotl(s.b, 30),
+        c: s.b.rotate_left(30),
         d: s.c,
         e: s.d,
     }
 }
 
-// The rounds go by twenties, each with a function of its own, so that no turn asks which one it is.
-fn rounds_0(h: State, w: &[u32; 80]) -> State
-    ensures { result ≡ spec.rounds w.now 0 20 h }
+// Twenty rounds, which share a function and a constant, so that no turn asks which one it is. Each twenty is code of its own, since where
+// they start is a parameter of the type: one that serves two of them is not inlined, and SHA-1 then takes a sixth longer.
+fn twenty<const FROM: usize, F: Fn(u32, u32, u32) -> u32>(
+    h: State,
+    w: &[u32; 80],
+    mix: F,
+    k: u32,
+) -> State
+    requires twenties { (FROM % 20 ≡ 0) × (FROM ≤ 60) }
+    requires callable { F.IsAlwaysCallable mix }
+    requires mixes { (x y z r : ℕ) → F.post mix x y z r → r ≡ spec.mix_of FROM x y z }
+    requires constant { k ≡ spec.constant_of FROM }
+    ensures { result ≡ spec.rounds w.now FROM 20 h }
 {
     let mut s = h;
-    for t in 0..20 {
-        s = round(s, choice(s.b, s.c, s.d), 0x5a827999, w[t]);
-    }
-    s
-}
-
-fn rounds_20(h: State, w: &[u32; 80]) -> State
-    ensures { result ≡ spec.rounds w.now 20 20 h }
-{
-    let mut s = h;
-    for t in 20..40 {
-        s = round(s, parity(s.b, s.c, s.d), 0x6ed9eba1, w[t]);
-    }
-    s
-}
-
-fn rounds_40(h: State, w: &[u32; 80]) -> State
-    ensures { result ≡ spec.rounds w.now 40 20 h }
-{
-    let mut s = h;
-    for t in 40..60 {
-        s = round(s, majority(s.b, s.c, s.d), 0x8f1bbcdc, w[t]);
-    }
-    s
-}
-
-fn rounds_60(h: State, w: &[u32; 80]) -> State
-    ensures { result ≡ spec.rounds w.now 60 20 h }
-{
-    let mut s = h;
-    for t in 60..80 {
-        s = round(s, parity(s.b, s.c, s.d), 0xca62c1d6, w[t]);
+    for x in &w[FROM..FROM + 20] {
+        s = round(s, mix(s.b, s.c, s.d), k, *x);
     }
     s
 }
@@ -164,24 +124,24 @@ fn sum(s: State, h: State) -> State
     ensures { result ≡ spec.sum s h }
 {
     State {
-        a: std::num::wrapping_add_u32(s.a, h.a),
-        b: std::num::wrapping_add_u32(s.b, h.b),
-        c: std::num::wrapping_add_u32(s.c, h.c),
-        d: std::num::wrapping_add_u32(s.d, h.d),
-        e: std::num::wrapping_add_u32(s.e, h.e),
+        a: s.a.wrapping_add(h.a),
+        b: s.b.wrapping_add(h.b),
+        c: s.c.wrapping_add(h.c),
+        d: s.d.wrapping_add(h.d),
+        e: s.e.wrapping_add(h.e),
     }
 }
 
-// The hash value after the block s.
-fn compress(h: State, s: &[u8]) -> State
-    requires { length s.now ≡ 64 }
-    ensures { result ≡ spec.compress s.now h }
+// The hash value after a block.
+fn compress(h: State, block: &[u8; 64]) -> State
+    ensures { result ≡ spec.compress block.now h }
 {
-    let w = schedule(s);
-    let s20 = rounds_0(h, &w);
-    let s40 = rounds_20(s20, &w);
-    let s60 = rounds_40(s40, &w);
-    sum(rounds_60(s60, &w), h)
+    let w = schedule(block);
+    let s20 = twenty::<0, _>(h, &w, choice, 0x5a827999);
+    let s40 = twenty::<20, _>(s20, &w, parity, 0x6ed9eba1);
+    let s60 = twenty::<40, _>(s40, &w, majority, 0x8f1bbcdc);
+    let s80 = twenty::<60, _>(s60, &w, parity, 0xca62c1d6);
+    sum(s80, h)
 }
 
 // The hash value h with all whole blocks of s taken in.
@@ -190,9 +150,9 @@ pub fn absorb(h: State, s: &[u8]) -> State
 {
     let mut g = h;
     let mut t = s;
-    while 64 <= t.len() {
-        g = compress(g, &t[0..64]);
-        t = &t[64..];
+    while let Some((block, rest)) = t.split_first_chunk::<64>() {
+        g = compress(g, block);
+        t = rest;
     }
     g
 }

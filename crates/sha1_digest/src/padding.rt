@@ -3,23 +3,14 @@ ghost use Rattle.std.specs.Prelude.{◌≡◌, ◌+◌, ◌*◌, ◌%◌, ◌++�
 ghost use Rattle.sha1_digest.specs.Compression as values;
 ghost use Rattle.sha1_digest.specs.Finished as spec;
 
-use crate::compression::State;
+use crate::compression::{self, State};
 
 // The block b with the number of bits of n bytes at its end, modulo 2^64.
 fn counted(b: [u8; 64], n: usize) -> [u8; 64]
     ensures { result ≡ take 56 b ++ spec.count_of n }
 {
-    let low = n % 2305843009213693952 * 8;
-    let high = low / 4294967296;
     let mut r = b;
-    r[56] = (high / 16777216 % 256) as u8;
-    r[57] = (high / 65536 % 256) as u8;
-    r[58] = (high / 256 % 256) as u8;
-    r[59] = (high % 256) as u8;
-    r[60] = (low / 16777216 % 256) as u8;
-    r[61] = (low / 65536 % 256) as u8;
-    r[62] = (low / 256 % 256) as u8;
-    r[63] = (low % 256) as u8;
+    r[56..].copy_from_slice(&n.wrapping_mul(8).to_be_bytes());
     r
 }
 
@@ -30,14 +21,12 @@ fn last(h: State, s: &[u8], n: usize) -> State
 {
     let mut b = hash_block::block(s);
     let k = s.len();
-    b[k] = 128;
+    b[k] = 0x80;
     if k < 56 {
-        let c = counted(b, n);
-        crate::compression::absorb(h, &c)
+        compression::absorb(h, &counted(b, n))
     } else {
-        let g = crate::compression::absorb(h, &b);
-        let c = counted([0; 64], n);
-        crate::compression::absorb(g, &c)
+        let g = compression::absorb(h, &b);
+        compression::absorb(g, &counted([0; 64], n))
     }
 }
 
@@ -46,35 +35,23 @@ fn run(h: State, s: &[u8], n: usize) -> State
     requires { length s.now % 64 ≡ n % 64 }
     ensures { result ≡ values.run (s.now ++ spec.padding n) h }
 {
-    let k = s.len() / 64 * 64;
-    last(crate::compression::absorb(h, s), &s[k..], n)
+    let (_, rest) = s.as_chunks::<64>();
+    last(compression::absorb(h, s), rest, n)
 }
 
 fn digest(h: State) -> [u8; 20]
     ensures { result ≡ spec.digest h }
 {
-    [
-        (h.a / 16777216 % 256) as u8,
-        (h.a / 65536 % 256) as u8,
-        (h.a / 256 % 256) as u8,
-        (h.a % 256) as u8,
-        (h.b / 16777216 % 256) as u8,
-        (h.b / 65536 % 256) as u8,
-        (h.b / 256 % 256) as u8,
-        (h.b % 256) as u8,
-        (h.c / 16777216 % 256) as u8,
-        (h.c / 65536 % 256) as u8,
-        (h.c / 256 % 256) as u8,
-        (h.c % 256) as u8,
-        (h.d / 16777216 % 256) as u8,
-        (h.d / 65536 % 256) as u8,
-        (h.d / 256 % 256) as u8,
-        (h.d % 256) as u8,
-        (h.e / 16777216 % 256) as u8,
-        (h.e / 65536 % 256) as u8,
-        (h.e / 256 % 256) as u8,
-        (h.e % 256) as u8,
-    ]
+    let words = [
+        h.a.to_be_bytes(),
+        h.b.to_be_bytes(),
+        h.c.to_be_bytes(),
+        h.d.to_be_bytes(),
+        h.e.to_be_bytes(),
+    ];
+    let mut r = [0; 20];
+    r.copy_from_slice(words.as_flattened());
+    r
 }
 
 // The digest of a message whose first blocks, so many, h has taken in, and of which s is the rest.

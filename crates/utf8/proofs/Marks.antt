@@ -10,6 +10,8 @@ use lib.Bits.{bit_and, bit_or, and_block, and_shifted, and_comm, and_zero_r, or_
 use lib.ListN.{length, get_or, take, drop}
 use lib.Seq.{drop-cons, drop-drop}
 use lib.Dec.{leb, eqb}
+use Rattle.std.proofs.Common.{◌++◌, w64}
+use Rattle.std.specs.Int.{from_le_bytes}
 use borrow.Author.Tests.{le-leb, lt-leb, eq-eqb, ne_eqb}
 use Rattle.base.specs.Bytes.{Bytes}
 use Rattle.utf8_spec.specs.Utf8.{begins}
@@ -61,35 +63,32 @@ lows (suc n) (b ∷ s) (h, hs) l =
     (λ e f. omega arith)
     ∙ rw (top_bit b h, lows n s hs (omega arith)) (tested b (begins (ones n) s))
 
-cons : (s : List ℕ) (k j : ℕ) {x : ℕ} → j ≡ k + 1 → k < length s → x ≡ get_or s k 0 → drop k s ≡ x ∷ drop j s
-cons s k j e l f = rw (e, f, add-one, drop-cons s k 0 l)
+-- eight bytes at a place as one number
+module _ (s : List ℕ) (i : ℕ) where
+  abbrev eight_at : List ℕ
+  eight_at =
+      get_or s i 0 ∷ get_or s (i + 1) 0 ∷ get_or s (i + 2) 0 ∷ get_or s (i + 3) 0 ∷ get_or s (i + 4) 0 ∷ get_or s (i + 5) 0 ∷ get_or s (i + 6) 0
+      ∷ get_or s (i + 7) 0 ∷ []
 
--- the byte at a place, as a wider number
-abbrev Byte : List ℕ → ℕ → ℕ → Type 0
-Byte s k x = (x ≡ get_or s k 0) × (x < 256)
+  from : (k : ℕ) (t : List ℕ) {j : ℕ} → j ≡ k + 1 → k < length s → t ≡ drop j s → get_or s k 0 ∷ t ≡ drop k s
+  from k t e l f = rw (f, e, add-one, drop-cons s k 0 l) refl
 
-module _ (s : List ℕ) (i a b c d e f g h : ℕ) where
-  abbrev word : ℕ
-  word = a + b * 0x100 + c * 0x10000 + d * 0x1000000 + e * 0x100000000 + f * 0x10000000000 + g * 0x1000000000000 + h * 0x100000000000000
+  front : i + 8 ≤ length s → eight_at ++ drop (i + 8) s ≡ drop i s
+  front l =
+      from i _ (omega arith) (omega arith)
+      (from (i + 1) _ (omega arith) (omega arith)
+      (from (i + 2) _ (omega arith) (omega arith)
+      (from (i + 3) _ (omega arith) (omega arith)
+      (from (i + 4) _ (omega arith) (omega arith)
+      (from (i + 5) _ (omega arith) (omega arith) (from (i + 6) _ (omega arith) (omega arith) (from (i + 7) _ (omega arith) (omega arith) refl)))))))
 
-  abbrev front : List ℕ
-  front = a ∷ b ∷ c ∷ d ∷ e ∷ f ∷ g ∷ h ∷ drop (i + 8) s
-
-  pub eight : i + 8 ≤ length s → Byte s i a → Byte s (i + 1) b → Byte s (i + 2) c → Byte s (i + 3) d → Byte s (i + 4) e → Byte s (i + 5) f → Byte s (i + 6) g
-      → Byte s (i + 7) h → eqb (bit_and word 0x8080808080808080) 0 ≡ begins (ones 8) (drop i s)
-  eight l a' b' c' d' e' f' g' h' =
-      let sum : word ≡ little 8 front = omega arith in
-      let bytes : Bytes (take 8 front) = (a'.1, (b'.1, (c'.1, (d'.1, (e'.1, (f'.1, (g'.1, (h'.1, tt)))))))) in
-      let same : drop i s ≡ front =
-      cons s i (i + 1) (omega arith) (omega arith) a'.0
-      ∙ ap (a ∷◌) (cons s (i + 1) (i + 2) (omega arith) (omega arith) b'.0
-      ∙ ap (b ∷◌) (cons s (i + 2) (i + 3) (omega arith) (omega arith) c'.0
-      ∙ ap (c ∷◌) (cons s (i + 3) (i + 4) (omega arith) (omega arith) d'.0
-      ∙ ap (d ∷◌) (cons s (i + 4) (i + 5) (omega arith) (omega arith) e'.0
-      ∙ ap (e ∷◌) (cons s (i + 5) (i + 6) (omega arith) (omega arith) f'.0
-      ∙ ap (f ∷◌) (cons s (i + 6) (i + 7) (omega arith) (omega arith) g'.0
-      ∙ ap (g ∷◌) (cons s (i + 7) (i + 8) (omega arith) (omega arith) h'.0))))))) in
-      ap (λ (w : ℕ). eqb (bit_and w 0x8080808080808080) 0) sum ∙ lows 8 front bytes (omega arith) ∙ ap (begins (ones 8)) (sym same)
+  pub eight : {w : ℕ} → i + 8 ≤ length s → ((k : ℕ) → get_or s k 0 < 256) → w ≡ from_le_bytes w64 eight_at
+      → eqb (bit_and w 0x8080808080808080) 0 ≡ begins (ones 8) (drop i s)
+  eight {w} l h e =
+      let sum : from_le_bytes w64 eight_at ≡ little 8 (eight_at ++ drop (i + 8) s) = omega arith in
+      let bytes : Bytes (take 8 (eight_at ++ drop (i + 8) s)) = (h i, (h (i + 1), (h (i + 2), (h (i + 3), (h (i + 4), (h (i + 5), (h (i + 6), (h (i + 7), tt)))))))) in
+      ap (λ (x : ℕ). eqb (bit_and x 0x8080808080808080) 0) (e ∙ sum) ∙ lows 8 (eight_at ++ drop (i + 8) s) bytes (omega arith)
+      ∙ ap (begins (ones 8)) (front l)
 
 -- and several such numbers at once
 ones_ones : (n m k : ℕ) (s : List ℕ) → k ≡ n + m → begins (ones k) s ≡ (begins (ones n) s && begins (ones m) (drop n s))

@@ -4,37 +4,33 @@ use mathlib.Core.List.{List, [], ◌∷◌, ◌++◌}
 use mathlib.Core.Bool.{Bool, true, false, ◌&&◌, false≢true}
 use mathlib.Core.Path.{◌≡◌, refl, sym, ap, ◌∙◌}
 use native.Mathlib.Omega.{arith}
-use native.Mathlib.Decide.{dec_le}
 use native.Mathlib.Numerals.{add-one}
 use lib.ListN.{length, get_or, drop}
 use lib.Seq.{drop-cons}
 use lib.Dec.{leb}
-use borrow.Author.Tests.{leb-true}
+use borrow.Author.Tests.{leb-true, le-leb}
+use Rattle.base.specs.Choice.{pick}
 use Rattle.utf8_spec.specs.Utf8.{◌to◌, Sequence, UTF8-1, UTF8-2, UTF8-3, UTF8-4, UTF8-char, OneOf, begins, first, width}
-use Rattle.utf8_spec.specs.Utf8Laws.{and_left, and_right, apart, first_below, first_past, width_one}
-use Rattle.utf8.specs.Places.{width_at, behind_at}
+use Rattle.utf8_spec.specs.Utf8Laws.{and_left, and_right, apart, row, first_below, first_past, width_one}
+use Rattle.utf8.specs.Places.{width_at}
 
 at_place : (s : List ℕ) (at : ℕ) → at < length s → get_or s at 0 ∷ drop (at + 1) s ≡ drop at s
 at_place s at h = sym (rw (add-one, drop-cons s at 0 h))
 
 -- the byte at the place is of a row's first range
 pub row_width : {lo hi : ℕ} {q : Sequence} → OneOf (lo to hi ∷ q) UTF8-char → (s : List ℕ) (at r : ℕ) → at < length s → lo ≤ get_or s at 0 → get_or s at 0 ≤ hi
-    → r ≡ behind_at q s at → r ≡ width_at s at
-unfolding behind_at width_at
-row_width m s at r h l o e = e ∙ sym (width_one (get_or s at 0) (drop (at + 1) s) m l o) ∙ ap width (at_place s at h)
+    → r ≡ pick (begins (lo to hi ∷ q) (drop at s)) (suc (length q)) 0 → r ≡ width_at s at
+unfolding width_at begins
+row_width {lo} {hi} {q} m s at r h l o e =
+    let b = get_or s at 0 in
+    let t = drop (at + 1) s in
+    let d : begins (lo to hi ∷ q) (b ∷ t) ≡ begins q t = rw (le-leb lo b l, le-leb b hi o) refl in
+    e ∙ ap (λ (u : List ℕ). pick (begins (lo to hi ∷ q) u) (suc (length q)) 0) (sym (at_place s at h))
+    ∙ ap (λ (x : Bool). pick x (suc (length q)) 0) d ∙ sym (width_one b t m l o) ∙ ap width (at_place s at h)
 
--- or of one of two rows' that ask for the same
-pub two_rows_width : {lo hi a z : ℕ} {q : Sequence} → OneOf (lo to hi ∷ q) UTF8-char → OneOf (a to z ∷ q) UTF8-char → (s : List ℕ) (at r : ℕ) → at < length s
-    → lo ≤ get_or s at 0 → (hi < get_or s at 0 → a ≤ get_or s at 0) → get_or s at 0 ≤ z → r ≡ behind_at q s at → r ≡ width_at s at
-two_rows_width {hi = hi} m n s at r h l g o e = by (dec_le (get_or s at 0) hi)
-  where
-    by : Dec (get_or s at 0 ≤ hi) → r ≡ width_at s at
-    by (yes p) = row_width m s at r h l p e
-    by (no p) = row_width n s at r h (g (omega arith)) o e
-
-pub alone : (s : List ℕ) (at : ℕ) → 1 ≡ behind_at [] s at
-unfolding behind_at begins
-alone s at = refl
+pub alone : (s : List ℕ) (at : ℕ) → at < length s → get_or s at 0 ≤ 0x7F → 1 ≡ width_at s at
+unfolding width_at begins
+alone s at h l = sym (width_one (get_or s at 0) (drop (at + 1) s) (row 0 (omega arith)) (omega arith) l) ∙ ap width (at_place s at h)
 
 -- rows whose first range is below n
 abbrev under : ℕ → List Sequence → Bool

@@ -94,11 +94,11 @@ module _ (s : List ℕ) (i n : ℕ) (h : i < length s) (e : n ≡ width_at s i) 
             (ap (λ (k : ℕ). is_utf8 (drop k (drop i s))) e ∙ sym (utf8_width (drop i s) (omega arith)));
       }
 
-  pub stop : On s 0 i → n ≡ 0 → false ≡ is_utf8 s
+  pub none_here : n ≡ 0 → false ≡ is_utf8 (drop i s)
   unfolding width_at
-  stop x z =
+  none_here z =
       let d : drop i s ≡ get_or s i 0 ∷ drop (suc i) s = drop-cons s i 0 h in
-      sym (utf8_none (get_or s i 0) (drop (suc i) s) (ap width (sym d) ∙ sym e ∙ z)) ∙ ap is_utf8 (sym d) ∙ x.same
+      sym (utf8_none (get_or s i 0) (drop (suc i) s) (ap width (sym d) ∙ sym e ∙ z)) ∙ ap is_utf8 (sym d)
 
 pub done : {s : List ℕ} {i : ℕ} → On s 0 i → length s ≤ i → true ≡ is_utf8 s
 done {s} {i} x h = sym utf8_empty ∙ ap is_utf8 (sym (drop_of_length-le s {i = i} h)) ∙ x.same

@@ -1,9 +1,10 @@
 // UTF-8 as RFC 3629 has it: whether bytes are text.
 #![tactic(auto)]
 
-ghost use Rattle.std.specs.Prelude.{◌≡◌, [], ◌∷◌, ◌&&◌, ◌+◌, ◌≤◌, ◌<◌, length, get_or, drop, leb, eqb};
-ghost use Rattle.utf8_spec.specs.Utf8.{◌to◌, UTF8-tail, begins, is_utf8};
-ghost use Rattle.utf8.specs.Places.{width_at, behind_at};
+ghost use Rattle.std.specs.Prelude.{◌≡◌, false, MatchOption, ◌&&◌, ◌+◌, ◌≤◌, ◌<◌, length, get_or, drop, leb, eqb};
+ghost use Rattle.base.specs.Choice.{pick};
+ghost use Rattle.utf8_spec.specs.Utf8.{UTF8-char, OneOf, begins, is_utf8};
+ghost use Rattle.utf8.specs.Places.{ranges, width_at};
 ghost use Rattle.utf8.specs.Steps.{ones, On, Past};
 
 pub mod points;
@@ -12,100 +13,68 @@ pub mod points;
 fn right(b: u8, lo: u8, hi: u8) -> bool
     ensures { result ≡ (leb lo b && leb b hi) }
 {
-    lo <= b && b <= hi
+    (lo..=hi).contains(&b)
 }
 
-// The width of a character of two bytes whose first stands at `at`; 0 where the second is none for it.
-fn two(s: &[u8], at: usize) -> usize
-    requires { at < length s.now }
-    ensures { result ≡ behind_at (UTF8-tail ∷ []) s.now at }
+// The rows of the RFC's grammar for characters of more than one byte: the first and the last of the bytes that stand at each place.
+const TAIL: (u8, u8) = (0x80, 0xBF);
+
+const PAIR: [(u8, u8); 2] = [(0xC2, 0xDF), TAIL];
+
+const E0: [(u8, u8); 3] = [(0xE0, 0xE0), (0xA0, 0xBF), TAIL];
+
+const E1: [(u8, u8); 3] = [(0xE1, 0xEC), TAIL, TAIL];
+
+const ED: [(u8, u8); 3] = [(0xED, 0xED), (0x80, 0x9F), TAIL];
+
+const EE: [(u8, u8); 3] = [(0xEE, 0xEF), TAIL, TAIL];
+
+const F0: [(u8, u8); 4] = [(0xF0, 0xF0), (0x90, 0xBF), TAIL, TAIL];
+
+const F1: [(u8, u8); 4] = [(0xF1, 0xF3), TAIL, TAIL, TAIL];
+
+const F4: [(u8, u8); 4] = [(0xF4, 0xF4), (0x80, 0x8F), TAIL, TAIL];
+
+// Whether a character of a row stands at `at`. All bytes are looked at, which makes a single test of them.
+fn stands<const N: usize>(s: &[u8], at: usize, row: &[(u8, u8); N]) -> bool
+    requires { at ≤ length s.now }
+    ensures { result ≡ begins (ranges row.now) (drop at s.now) }
 {
-    if s.len() - at < 2 {
-        return 0;
+    let Some(bytes) = s[at..].first_chunk::<N>() else {
+        return false;
+    };
+    let mut all = true;
+    for (b, (lo, hi)) in bytes.iter().zip(row) {
+        all &= right(*b, *lo, *hi);
     }
-    if !right(s[at + 1], 0x80, 0xBF) {
-        return 0;
-    }
-    2
+    all
 }
 
-// Of three, where the second byte is to be from `lo` to `hi`.
-fn three(s: &[u8], at: usize, lo: u8, hi: u8) -> usize
-    requires { at < length s.now }
-    ensures { result ≡ behind_at (lo to hi ∷ UTF8-tail ∷ []) s.now at }
+// How many bytes the character at `at` has, by the one row that its first byte may begin; 0 where none stands there.
+fn width_by<const N: usize>(s: &[u8], at: usize, row: &[(u8, u8); N]) -> usize
+    requires { at ≤ length s.now }
+    ensures { result ≡ pick (begins (ranges row.now) (drop at s.now)) N 0 }
 {
-    if s.len() - at < 3 {
-        return 0;
-    }
-    if !right(s[at + 1], lo, hi) {
-        return 0;
-    }
-    if !right(s[at + 2], 0x80, 0xBF) {
-        return 0;
-    }
-    3
+    if stands(s, at, row) { N } else { 0 }
 }
 
-fn four(s: &[u8], at: usize, lo: u8, hi: u8) -> usize
-    requires { at < length s.now }
-    ensures { result ≡ behind_at (lo to hi ∷ UTF8-tail ∷ UTF8-tail ∷ []) s.now at }
-{
-    if s.len() - at < 4 {
-        return 0;
-    }
-    if !right(s[at + 1], lo, hi) {
-        return 0;
-    }
-    if !right(s[at + 2], 0x80, 0xBF) {
-        return 0;
-    }
-    if !right(s[at + 3], 0x80, 0xBF) {
-        return 0;
-    }
-    4
-}
-
-// How many bytes the character at `at` has; 0 where none stands there. By the rows of the RFC's grammar, of which those for
-// E1 to EC and EE to EF ask for the same.
+// How many bytes the character at `at` has; 0 where none stands there.
 fn width_at(s: &[u8], at: usize) -> usize
     requires { at < length s.now }
     ensures { result ≡ width_at s.now at }
 {
-    let b = s[at];
-    if b < 0x80 {
-        return 1;
+    match s[at] {
+        0x00..=0x7F => 1,
+        0xC2..=0xDF => width_by(s, at, &PAIR),
+        0xE0 => width_by(s, at, &E0),
+        0xE1..=0xEC => width_by(s, at, &E1),
+        0xED => width_by(s, at, &ED),
+        0xEE..=0xEF => width_by(s, at, &EE),
+        0xF0 => width_by(s, at, &F0),
+        0xF1..=0xF3 => width_by(s, at, &F1),
+        0xF4 => width_by(s, at, &F4),
+        _ => 0,
     }
-    if b < 0xC2 {
-        return 0;
-    }
-    if b < 0xE0 {
-        return two(s, at);
-    }
-    if b < 0xF0 {
-        if b == 0xE0 {
-            return three(s, at, 0xA0, 0xBF);
-        }
-        if b == 0xED {
-            return three(s, at, 0x80, 0x9F);
-        }
-        return three(s, at, 0x80, 0xBF);
-    }
-    if b == 0xF0 {
-        return four(s, at, 0x90, 0xBF);
-    }
-    if b < 0xF4 {
-        return four(s, at, 0x80, 0xBF);
-    }
-    if b == 0xF4 {
-        return four(s, at, 0x80, 0x8F);
-    }
-    0
-}
-
-fn wide(x: u8) -> u64
-    ensures { (result ≡ x) × (result < 256) }
-{
-    x as u64
 }
 
 // The top bits of the eight bytes at `i`: none is set where each is below 128. A load and a mask once it is compiled.
@@ -113,14 +82,16 @@ fn tops(s: &[u8], i: usize) -> u64
     requires { i + 8 ≤ length s.now }
     ensures { eqb result 0 ≡ begins (ones 8) (drop i s.now) }
 {
-    let word = wide(s[i])
-        + wide(s[i + 1]) * 0x100
-        + wide(s[i + 2]) * 0x1_0000
-        + wide(s[i + 3]) * 0x100_0000
-        + wide(s[i + 4]) * 0x1_0000_0000
-        + wide(s[i + 5]) * 0x100_0000_0000
-        + wide(s[i + 6]) * 0x1_0000_0000_0000
-        + wide(s[i + 7]) * 0x100_0000_0000_0000;
+    let word = u64::from_le_bytes([
+        s[i],
+        s[i + 1],
+        s[i + 2],
+        s[i + 3],
+        s[i + 4],
+        s[i + 5],
+        s[i + 6],
+        s[i + 7],
+    ]);
     word & 0x8080_8080_8080_8080
 }
 
@@ -159,97 +130,33 @@ fn past_ascii(s: &[u8], from: usize) -> usize
     j
 }
 
-// Whether a character of two bytes stands at `at`; below, one of three by the row E1 to EC, and one of four by the row F0. Nearly all
-// text outside ASCII is made of these, so they have loops of their own. All bytes are loaded before one is looked at, which makes a
-// single test of them.
-fn is_pair(s: &[u8], at: usize) -> bool
-    requires { at ≤ length s.now }
-    ensures { result ≡ begins (0xC2 to 0xDF ∷ UTF8-tail ∷ []) (drop at s.now) }
-{
-    if s.len() - at < 2 {
-        return false;
-    }
-    let b = s[at];
-    let c = s[at + 1];
-    if !right(b, 0xC2, 0xDF) {
-        return false;
-    }
-    right(c, 0x80, 0xBF)
-}
-
-fn is_triple(s: &[u8], at: usize) -> bool
-    requires { at ≤ length s.now }
-    ensures { result ≡ begins (0xE1 to 0xEC ∷ UTF8-tail ∷ UTF8-tail ∷ []) (drop at s.now) }
-{
-    if s.len() - at < 3 {
-        return false;
-    }
-    let b = s[at];
-    let c = s[at + 1];
-    let d = s[at + 2];
-    if !right(b, 0xE1, 0xEC) {
-        return false;
-    }
-    if !right(c, 0x80, 0xBF) {
-        return false;
-    }
-    right(d, 0x80, 0xBF)
-}
-
-fn is_quad(s: &[u8], at: usize) -> bool
-    requires { at ≤ length s.now }
-    ensures { result ≡ begins (0xF0 to 0xF0 ∷ 0x90 to 0xBF ∷ UTF8-tail ∷ UTF8-tail ∷ []) (drop at s.now) }
-{
-    if s.len() - at < 4 {
-        return false;
-    }
-    let b = s[at];
-    let c = s[at + 1];
-    let d = s[at + 2];
-    let e = s[at + 3];
-    if !right(b, 0xF0, 0xF0) {
-        return false;
-    }
-    if !right(c, 0x90, 0xBF) {
-        return false;
-    }
-    if !right(d, 0x80, 0xBF) {
-        return false;
-    }
-    right(e, 0x80, 0xBF)
-}
-
-fn past_pairs(s: &[u8], from: usize) -> usize
-    requires { from ≤ length s.now }
+// Past the run of characters of a row that starts at `from`. Nearly all text outside ASCII is made of three of them, so those have loops
+// of their own.
+fn past<const N: usize>(s: &[u8], from: usize, row: &[(u8, u8); N]) -> usize
+    requires within { from ≤ length s.now }
+    requires some { 0 < N }
+    requires row_of { OneOf (ranges row.now) UTF8-char }
     ensures { On s.now from result }
 {
     let mut j = from;
-    while is_pair(s, j) {
-        j += 2;
+    while stands(s, j, row) {
+        j += N;
     }
     j
 }
 
-fn past_triples(s: &[u8], from: usize) -> usize
-    requires { from ≤ length s.now }
-    ensures { On s.now from result }
+// Past the run of bytes below 128 that starts at `at`, or past the character of more bytes that stands there; `None` where none stands.
+fn onward(s: &[u8], at: usize) -> Option<usize>
+    requires { at < length s.now }
+    ensures { MatchOption result (false ≡ is_utf8 (drop at s.now)) (Past s.now at) }
 {
-    let mut j = from;
-    while is_triple(s, j) {
-        j += 3;
+    if s[at] < 0x80 {
+        return Some(past_ascii(s, at));
     }
-    j
-}
-
-fn past_quads(s: &[u8], from: usize) -> usize
-    requires { from ≤ length s.now }
-    ensures { On s.now from result }
-{
-    let mut j = from;
-    while is_quad(s, j) {
-        j += 4;
+    match width_at(s, at) {
+        0 => None,
+        n => Some(at + n),
     }
-    j
 }
 
 // Whether the bytes are UTF-8.
@@ -258,18 +165,12 @@ pub fn is_utf8(s: &[u8]) -> bool
 {
     let mut i = 0;
     while i < s.len() {
-        if s[i] < 0x80 {
-            i = past_ascii(s, i);
-        } else {
-            let n = width_at(s, i);
-            if n == 0 {
-                return false;
-            }
-            i += n;
-        }
-        i = past_pairs(s, i);
-        i = past_triples(s, i);
-        i = past_quads(s, i);
+        let Some(j) = onward(s, i) else {
+            return false;
+        };
+        let pairs = past(s, j, &PAIR);
+        let triples = past(s, pairs, &E1);
+        i = past(s, triples, &F0);
     }
     true
 }

@@ -1,8 +1,6 @@
-use Rattle.crc_folds.proofs.Walk.{next_length, next_is}
+use Rattle.std.proofs.Common.{rules}
+use Rattle.crc_folds.proofs.Walk.{eight}
 use Rattle.crc_folds.proofs.word_at.Goals as goal
 
-pub word_of-requires : goal.word_of-requires
-word_of-requires c = search (next_length)
-
 pub returns : goal.returns
-returns c = search (next_is)
+returns c = eight c.args.s.now c.args.i c.requires (λ k. search (rules, c.type_inv.s k)) c.from_le_bytes.ensures

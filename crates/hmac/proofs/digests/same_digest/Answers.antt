@@ -1,15 +1,18 @@
-use native.Mathlib.Omega.{arith}
+use Rattle.std.proofs.Common.{rules}
+use Rattle.std.proofs.lemmas.Slice.Zip.{Zip-more, either_empty_from_Zip}
 use Rattle.hmac.proofs.Comparison.{comparing_start, comparing_turn, comparing_done, sizes_differ}
 use Rattle.hmac.proofs.digests.same_digest.Goals as goal
 
 pub returns-then-b-ne20 : goal.returns-then-b-ne20
 returns-then-b-ne20 c = search (sizes_differ)
 
-pub loop-i-init : goal.loop-i-init
-loop-i-init c = search (comparing_start)
+pub loop-x-init : goal.loop-x-init
+loop-x-init c = search (rules, comparing_start)
 
-pub loop-i-preserved : goal.loop-i-preserved
-loop-i-preserved c = comparing_turn c.loop-i.invariant (omega arith)
+pub loop-x-preserved : goal.loop-x-preserved
+loop-x-preserved c =
+    let heads = Zip-more c.loop-x.x-iterator c.next.new.self _ _ c.in-Some.is c.next.ensures.steps in
+    comparing_turn c.loop-x.invariant heads.0 heads.1
 
 pub returns : goal.returns
-returns c = search (comparing_done)
+returns c = comparing_done c.loop-x.invariant (either_empty_from_Zip c.loop-x.x-iterator c.next.new.self _ c.in-None.is c.next.ensures.steps)

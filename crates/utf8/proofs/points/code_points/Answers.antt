@@ -1,15 +1,11 @@
-use Rattle.utf8.proofs.Count.{start, at_most, turn, done}
-use native.Mathlib.Omega.{arith}
+use Rattle.std.proofs.Common.{rules, tests, ◌∙◌}
+use Rattle.std.proofs.lemmas.Iterator.{YieldsList-from_slice}
+use Rattle.std.proofs.lemmas.Iterator.Consumers.{YieldsList-from_filter, count_from_yields_List}
+use Rattle.utf8.proofs.Count.{is_start, counted}
 use Rattle.utf8.proofs.points.code_points.Goals as goal
 
-pub loop-i-init : goal.loop-i-init
-loop-i-init c = search (start)
-
-pub loop-i-preserved : goal.loop-i-preserved
-loop-i-preserved c = search (turn)
-
 pub returns : goal.returns
-returns c = search (done)
-
-pub overflow_add-n : goal.overflow_add-n
-overflow_add-n c = omega (arith, at_most _ _ c.starting-n.ensures)
+returns c =
+    count_from_yields_List c.filter.result _ c.count.ensures.ran
+    (YieldsList-from_filter _ is_start (YieldsList-from_slice c.args.s.now (cc)) c.filter.ensures.closure (λ x r q k. search (rules, tests)))
+    ∙ counted c.args.s.now

@@ -1,10 +1,10 @@
 use Rattle.utf8.specs.Steps.{On}
 use lib.ListN.{length}
 use Prim.Native.Nat.{◌-◌}
-use Rattle.utf8.proofs.past_quads.Given as goal
+use Rattle.utf8.proofs.past.Given as goal
 
 abbrev pub invariant-loop-j : goal.invariant-loop-j
-invariant-loop-j l = On l.s l.from l.j
+invariant-loop-j g l = On l.s l.from l.j
 
 abbrev pub decreases-loop-j : goal.decreases-loop-j
-decreases-loop-j l = length l.s - l.j
+decreases-loop-j g l = length l.s - l.j
