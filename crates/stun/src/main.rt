@@ -2,7 +2,7 @@
 // program is to end with, or that it has been told why it can't.
 #![tactic(auto)]
 
-use hex_text::Hex;
+use hex_text::HexFault;
 use std::env::{Env, FillError};
 use std::io::{Error, Write};
 use std::process::ExitCode;
@@ -75,12 +75,12 @@ fn no_more(rt: HostRuntime, count: usize) -> Result<(), Told> {
 fn key_at(rt: HostRuntime, i: usize, key: &mut [u8]) -> Result<&[u8], Told> {
     let mut buf = [0u8; DIGITS];
     match hex_text::unhex(whole(rt, i, &mut buf, "the key")?, key) {
-        Hex::Bytes(size) => return Ok(key.get(..size).unwrap_or_default()),
-        Hex::Bad(p) => {
+        Ok(size) => return Ok(key.get(..size).unwrap_or_default()),
+        Err(HexFault::Bad(p)) => {
             let column = p.saturating_add(1);
             let _ = eprintln!(rt; "stun: the key, column {column}: not a hex digit");
         }
-        Hex::Odd => {
+        Err(HexFault::Odd) => {
             let _ = eprintln!(rt; "stun: the key has an odd number of hex digits");
         }
     }

@@ -1,11 +1,13 @@
 // One datagram's answers, for programs: the reading, the walk and the values, each a line of fields.
 use attribute::Walk;
-use read_message::Answer;
+use net::SocketAddr;
 use read_typed::Value;
-use registry::Entry;
 use stun_io::output::{Hex, Output};
 use stun_io::walk::{Attribute, Attributes};
+use wire::refusal::number_of;
 use wire::transaction_id::TransactionId;
+
+const NO_ID: TransactionId = TransactionId { bytes: [0; 12] };
 
 // What is asked of each datagram; Keyed has the key of its integrity.
 #[derive(Clone, Copy)]
@@ -17,31 +19,23 @@ pub enum Job<'a> {
 }
 
 fn reading(out: &mut Output, d: &[u8]) {
-    let r = read_message::read(d);
-    let id = r.id;
-    match r.answer {
-        Answer::Whole {
-            class,
-            method,
-            count,
-        } => {
-            let (class, method) = (class.as_u16(), method.as_u16());
-            write!(out, "whole {class} {method} {} {count}", Hex(&id.bytes));
+    let reading = match read_message::read(d) {
+        Ok(reading) => reading,
+        Err(refusal) => {
+            write!(out, "refused {}", refusal.number);
+            return;
         }
-        Answer::Broken {
-            class,
-            method,
-            reason,
-            place,
-        } => {
-            let (class, method) = (class.as_u16(), method.as_u16());
-            write!(
-                out,
-                "broken {class} {method} {} {reason} {place}",
-                Hex(&id.bytes)
-            );
-        }
-        Answer::Refused { number } => write!(out, "refused {number}"),
+    };
+    let (class, method) = (reading.class.as_u16(), reading.method.as_u16());
+    let id = Hex(&reading.id.bytes);
+    match reading.attributes {
+        Ok(count) => write!(out, "whole {class} {method} {id} {count}"),
+        Err(fault) => write!(
+            out,
+            "broken {class} {method} {id} {} {}",
+            fault.reason.number,
+            fault.place
+        ),
     }
 }
 
@@ -73,14 +67,13 @@ fn walk(out: &mut Output, d: &[u8]) {
 
 // What a value says, by its type.
 fn said(out: &mut Output, a: Attribute<'_>, id: TransactionId) {
-    let t = read_typed::value_of(a.kind, a.value, id);
-    let ip = t.ip;
-    match t.value {
-        Value::Address { family, port } => {
+    match read_typed::value_of(a.kind, a.value, id) {
+        Ok(Value::Address(address)) => {
+            let SocketAddr { family, port, ip } = address;
             let ip = ip.get(..family.ip_size()).unwrap_or_default();
             write!(out, "addr={}={port}={}", family.as_u8(), Hex(ip));
         }
-        Value::Code(error) => {
+        Ok(Value::Code(error)) => {
             let phrase = read_typed::part_of(a.kind, a.value);
             write!(
                 out,
@@ -90,25 +83,18 @@ fn said(out: &mut Output, a: Attribute<'_>, id: TransactionId) {
                 Hex(phrase)
             );
         }
-        Value::Plain => write!(out, "bytes={}", Hex(read_typed::part_of(a.kind, a.value))),
-        Value::Refused { number } => write!(out, "{number}"),
+        Ok(Value::Plain) => write!(out, "bytes={}", Hex(read_typed::part_of(a.kind, a.value))),
+        Err(refusal) => write!(out, "{}", refusal.number),
     }
-}
-
-fn is_known(kind: u16) -> bool {
-    if let Entry::Unknown = registry::entry_of(kind) {
-        return false;
-    }
-    true
 }
 
 // PLACE:TYPE:VALUE for each attribute of a known type, parted by blanks; a dash where there is none.
 fn values(out: &mut Output, d: &[u8]) {
-    let h = header::header_of(d);
-    let id = h.id;
+    // of a refused datagram the walk visits none, so that no ID is asked for
+    let id = header::header_of(d).map_or(NO_ID, |header| header.id);
     let mut none = true;
     for a in Attributes::of(d) {
-        if is_known(a.kind) {
+        if registry::entry_of(a.kind).is_some() {
             if !none {
                 out.put(b" ");
             }
@@ -133,7 +119,7 @@ pub fn answer(out: &mut Output, d: &[u8], job: Job<'_>) {
             write!(
                 out,
                 " integrity {}",
-                read_integrity::check_integrity(d, key)
+                number_of(read_integrity::check_integrity(d, key))
             );
         }
     }

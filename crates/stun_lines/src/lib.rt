@@ -7,7 +7,7 @@ pub mod answers;
 mod progress;
 
 use answers::{Job, answer};
-use hex_text::Hex;
+use hex_text::HexFault;
 use progress::Watch;
 use stun_io::complaints::is_heard;
 use stun_io::input::{MOST, read_some};
@@ -90,9 +90,9 @@ impl<'a> Lines<'a> {
     fn one(&mut self, s: &[u8]) {
         let s = s.strip_suffix(b"\r").unwrap_or(s);
         match hex_text::unhex(s, &mut self.raw) {
-            Hex::Bytes(size) => self.answer(size),
-            Hex::Bad(p) => self.no_hex(Some((p as u64).saturating_add(1))),
-            Hex::Odd => self.no_hex(None),
+            Ok(size) => self.answer(size),
+            Err(HexFault::Bad(p)) => self.no_hex(Some((p as u64).saturating_add(1))),
+            Err(HexFault::Odd) => self.no_hex(None),
         }
     }
 

@@ -12,16 +12,15 @@ mod page;
 mod values;
 
 use attribute::Walk;
-use page::{Named, Number, Page};
-use read_message::Answer;
+use page::{Number, Page};
+use read_message::Reading;
 use stun_file::Form;
 use stun_io::input::MOST;
 use stun_io::output::Hex;
 use stun_io::status::{Status, Told};
 use stun_io::walk::Attributes;
-use wire::method::Method;
+use wire::refusal::number_of;
 use wire::transaction_id::TransactionId;
-use wire::types::MessageClass;
 
 // How many bytes there are.
 fn amount(page: &mut Page, total: u64) {
@@ -32,15 +31,15 @@ fn amount(page: &mut Page, total: u64) {
     }
 }
 
-fn head(page: &mut Page, class: MessageClass, method: Method, id: TransactionId, total: u64) {
-    let name = names::method(method);
-    write!(page, "{}, ", Named(names::class(class)));
-    if name.size == 0 {
-        write!(page, "method {}", method.as_u16());
+fn head(page: &mut Page, reading: Reading, total: u64) {
+    let name = names::method(reading.method);
+    write!(page, "{}, ", names::class(reading.class));
+    if name.is_empty() {
+        write!(page, "method {}", reading.method.as_u16());
     } else {
-        write!(page, "{}", Named(name));
+        write!(page, "{name}");
     }
-    write!(page, ", ID {}", Hex(&id.bytes));
+    write!(page, ", ID {}", Hex(&reading.id.bytes));
     amount(page, total);
 }
 
@@ -60,18 +59,11 @@ fn attributes(page: &mut Page, d: &[u8], id: TransactionId) {
 }
 
 // What is shown of a datagram that has a header: the attributes stand under their columns' names, where there are any.
-fn opened(
-    page: &mut Page,
-    d: &[u8],
-    class: MessageClass,
-    method: Method,
-    id: TransactionId,
-    total: u64,
-) {
-    head(page, class, method, id, total);
+fn opened(page: &mut Page, d: &[u8], reading: Reading, total: u64) {
+    head(page, reading, total);
     if d.len() > 20 {
         write!(page, "\n\nplace  attribute           size  value");
-        attributes(page, d, id);
+        attributes(page, d, reading.id);
     }
 }
 
@@ -119,31 +111,24 @@ fn status_of(n: u8) -> u8
 fn datagram(page: &mut Page, d: &[u8], total: u64) -> u8
     ensures { result ≡ min 1 (reading_said (reading_of rfc5389 d.now)).number }
 {
-    let r = read_message::read(d);
-    let id = r.id;
-    match r.answer {
-        Answer::Whole {
-            class,
-            method,
-            count,
-        } => {
-            opened(page, d, class, method, id, total);
-            whole(page, count);
-            0
+    match read_message::read(d) {
+        Ok(reading) => {
+            opened(page, d, reading, total);
+            match reading.attributes {
+                Ok(count) => {
+                    whole(page, count);
+                    0
+                }
+                Err(fault) => {
+                    let reason = fault.reason.number;
+                    broken(page, d, reason, fault.place);
+                    status_of(reason)
+                }
+            }
         }
-        Answer::Broken {
-            class,
-            method,
-            reason,
-            place,
-        } => {
-            opened(page, d, class, method, id, total);
-            broken(page, d, reason, place);
-            status_of(reason)
-        }
-        Answer::Refused { number } => {
-            refused(page, d, total, number);
-            status_of(number)
+        Err(refusal) => {
+            refused(page, d, total, refusal.number);
+            status_of(refusal.number)
         }
     }
 }
@@ -161,7 +146,7 @@ pub fn read(rt: HostRuntime, path: &[u8], form: Option<Form>) -> Result<Status, 
 fn check_datagram(page: &mut Page, d: &[u8], key: &[u8]) -> u8
     ensures { result ≡ min 1 (integrity_fault rfc5389 d.now key.now) }
 {
-    let n = read_integrity::check_integrity(d, key);
+    let n = number_of(read_integrity::check_integrity(d, key));
     write!(page, "integrity {}", Number(n));
     page.end();
     status_of(n)

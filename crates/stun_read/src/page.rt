@@ -1,5 +1,4 @@
 // Standard output piece by piece, for a person, with names and colours.
-use names::Name;
 use std::fmt::{self, Display};
 use std::io::{IsTerminal, Result, Write};
 use stun_io::complaints::unwritten;
@@ -81,17 +80,6 @@ impl Page {
     }
 }
 
-// A name's letters.
-#[derive(Clone, Copy)]
-pub struct Named(pub Name);
-
-impl Display for Named {
-    fn fmt<W: fmt::Write>(&self, f: &mut fmt::Formatter<W>) -> fmt::Result {
-        let letters = self.0.text.get(..self.0.size).unwrap_or_default();
-        f.pad(std::str::from_utf8(letters).unwrap_or_default())
-    }
-}
-
 // A number of docs/NUMBERS.md and what it is called there.
 #[derive(Clone, Copy)]
 pub struct Number(pub u8);
@@ -99,6 +87,6 @@ pub struct Number(pub u8);
 impl Display for Number {
     fn fmt<W: fmt::Write>(&self, f: &mut fmt::Formatter<W>) -> fmt::Result {
         let n = self.0;
-        write!(f, "{n}, {}", Named(names::number(n)))
+        write!(f, "{n}, {}", names::number(n))
     }
 }

@@ -1,7 +1,7 @@
 // What an attribute says, in its own terms: addresses, texts, error codes, lists of types, and hex where no rule says more.
-use crate::page::{Named, Number, Page};
+use crate::page::{Number, Page};
 use big_endian::u16_at;
-use net::Family;
+use net::{Family, SocketAddr};
 use read_typed::Value;
 use registry::{ErrorCode, Rule};
 use std::fmt::{self, Display};
@@ -16,8 +16,8 @@ impl Display for Kind {
     fn fmt<W: fmt::Write>(&self, f: &mut fmt::Formatter<W>) -> fmt::Result {
         let kind = self.0;
         let name = names::attribute(kind);
-        if name.size != 0 {
-            return Named(name).fmt(f);
+        if !name.is_empty() {
+            return f.pad(name);
         }
         let mut text = [b'0', b'x', 0, 0, 0, 0];
         hex_text::show(&kind.to_be_bytes(), &mut text[2..]);
@@ -82,7 +82,8 @@ fn ipv6(page: &mut Page, ip: &[u8; 16]) {
     groups(page, g.get(behind..).unwrap_or_default());
 }
 
-fn address(page: &mut Page, family: Family, port: u16, ip: [u8; 16]) {
+fn address(page: &mut Page, address: SocketAddr) {
+    let SocketAddr { family, port, ip } = address;
     match family {
         Family::Ipv4 => {
             let [a, b, c, d, ..] = ip;
@@ -100,10 +101,10 @@ fn address(page: &mut Page, family: Family, port: u16, ip: [u8; 16]) {
 fn code(page: &mut Page, error: ErrorCode, phrase: &[u8]) {
     let n = error.code;
     let name = names::code(n);
-    if name.size == 0 {
+    if name.is_empty() {
         write!(page, "{n}, ");
     } else {
-        write!(page, "{n} {}, ", Named(name));
+        write!(page, "{n} {name}, ");
     }
     quoted(page, phrase);
     let reserved = error.reserved;
@@ -159,13 +160,11 @@ fn faulty(page: &mut Page, n: u8, value: &[u8]) {
 
 // What an attribute of a datagram says.
 pub fn said(page: &mut Page, d: &[u8], a: Attribute<'_>, id: TransactionId) {
-    let t = read_typed::value_of(a.kind, a.value, id);
-    let ip = t.ip;
-    match t.value {
-        Value::Address { family, port } => address(page, family, port, ip),
-        Value::Code(error) => code(page, error, read_typed::part_of(a.kind, a.value)),
-        Value::Plain => plain(page, d, a),
-        Value::Refused { number } => faulty(page, number, a.value),
+    match read_typed::value_of(a.kind, a.value, id) {
+        Ok(Value::Address(said)) => address(page, said),
+        Ok(Value::Code(error)) => code(page, error, read_typed::part_of(a.kind, a.value)),
+        Ok(Value::Plain) => plain(page, d, a),
+        Err(refusal) => faulty(page, refusal.number, a.value),
     }
 }
 

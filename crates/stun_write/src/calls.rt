@@ -2,16 +2,18 @@
 use crate::expected::Wanted;
 use crate::fields::Fields;
 use crate::script::LONGEST;
-use header::Head;
 use net::{Family, SocketAddr};
 use registry::ErrorCode;
 use stun_io::output::{Hex, Output};
 use stun_io::status::Status;
 use stun_io::words::is_comment;
 use wire::method::Method;
+use wire::refusal::Refusal;
 use wire::transaction_id::TransactionId;
 use wire::types::class_numbered;
-use write_begin::Written;
+
+// What a call on the message came to.
+type Written = Result<usize, Refusal>;
 
 // As many bytes as a buffer has at most.
 const LARGEST: usize = 131072;
@@ -27,10 +29,9 @@ pub struct Buffer {
 
 // The message at the buffer's front, by its own header; empty where there is none.
 fn message_of(buffer: &[u8]) -> &[u8] {
-    let h = header::front_of(buffer);
-    match h.head {
-        Head::Good { body, .. } => buffer.get(..20 + body as usize).unwrap_or_default(),
-        Head::Refused { .. } => b"",
+    match header::front_of(buffer) {
+        Ok(header) => buffer.get(..20 + header.body as usize).unwrap_or_default(),
+        Err(_) => b"",
     }
 }
 
@@ -220,10 +221,10 @@ impl Buffer {
                 let size = self.size.min(LARGEST);
                 let store = &mut self.store[..];
                 match written(call, &mut fields, &mut self.bytes, &mut store[..size])? {
-                    Written::Total { size } => ok(out, size),
-                    Written::Refused { number } => {
+                    Ok(size) => ok(out, size),
+                    Err(refusal) => {
                         out.note(Status::Fault);
-                        write!(out, "no {number}\n");
+                        write!(out, "no {}\n", refusal.number);
                     }
                 }
             }

@@ -2,8 +2,7 @@
 ghost use Rattle.std.specs.Prelude.{◌≤◌, length, IfOk};
 
 use crate::expected::Wanted;
-use digits::Number;
-use hex_text::Hex;
+use digits::number_of;
 use registry::Rule;
 use stun_io::words::is_blank;
 
@@ -13,22 +12,12 @@ pub struct Fields<'a> {
     rest: &'a [u8],
 }
 
-fn number_of(t: &[u8]) -> Option<u64> {
-    match digits::number_of(t) {
-        Number::Is(n) => Some(n),
-        Number::Not => None,
-    }
-}
-
 // How many bytes hex digits spell, `-` for none; they go to out, where there is room.
 fn bytes_of(t: &[u8], out: &mut [u8]) -> Option<usize> {
     match t {
         b"" => None,
         b"-" => Some(0),
-        _ => match hex_text::unhex(t, out) {
-            Hex::Bytes(n) => Some(n),
-            _ => None,
-        },
+        _ => hex_text::unhex(t, out).ok(),
     }
 }
 
