@@ -1,6 +1,7 @@
 -- What the typed calls return and leave in the buffer.
-use Rattle.std.specs.Prelude.{ℕ, zero, suc, ◌-◌, ◌%◌, ◌<◌, List, [], ◌∷◌, ◌≡◌, refl, length, take, replicate, Result, Ok, Err, Option}
+use Rattle.std.specs.Prelude.{ℕ, ◌-◌, ◌%◌, List, [], ◌∷◌, ◌≡◌, length, take, Result, Ok, Err, Option}
 use Rattle.std.proofs.Common.{sym, ap, ◌∙◌, arith, eq-eqb, ne_eqb}
+use Rattle.std.proofs.lemmas.List.{take-replicate}
 use Rattle.base.specs.Choice.{pick}
 use Rattle.wire.specs.Refusal.{refused_by}
 use Rattle.wire.proofs.RefusalLaws.{passes, refuses}
@@ -36,23 +37,16 @@ module _ (k : ℕ) (v : List ℕ) {x : Option Row} {q : Rule} (e : x ≡ look rf
   pub no_text : (q ≡ Text → ⊥) → 23 ≡ text_refusal rfc5389 k v
   no_text t = by_rule (rw (another_rule q Text t))
 
--- the first m of three zeros
+-- three zeros
 abbrev three : List ℕ
 three = 0 ∷ 0 ∷ 0 ∷ []
-
-zeros : (m : ℕ) → m < 4 → take m three ≡ replicate {A = ℕ} m 0
-zeros zero h = refl
-zeros (suc zero) h = refl
-zeros (suc (suc zero)) h = refl
-zeros (suc (suc (suc zero))) h = refl
-zeros (suc (suc (suc (suc m)))) h = absurd (omega arith)
 
 module _ (d : List ℕ) (w k : ℕ) (v : List ℕ) where
   same : attr k v (take ((4 - length v % 4) % 4) three) ≡ typed k v
   unfolding typed
   same =
       let m : (4 - length v % 4) % 4 ≡ padded (length v) - length v = omega arith in
-      ap (λ (q : List ℕ). attr k v q) (ap (λ (x : ℕ). take x three) m ∙ zeros (padded (length v) - length v) (omega arith))
+      ap (λ (q : List ℕ). attr k v q) (ap (λ (x : ℕ). take x three) m ∙ take-replicate (padded (length v) - length v) 3 0 (omega arith))
 
   pub value_answer : {r : Result ℕ Refusal} → r ≡ answer d w (attr k v (take ((4 - length v % 4) % 4) three)) → r ≡ answer d w (typed k v)
   value_answer e = e ∙ ap (answer d w) same
