@@ -70,7 +70,7 @@ fn keep(b: u8, g: Reached, raw: &mut [u8]) {
     }
     let digits = [g.last, b];
     let mut byte = [0u8; 1];
-    hex_text::unhex(&digits, &mut byte);
+    let _ = hex_text::unhex(&digits, &mut byte);
     buffers::put_bytes(raw, (g.digits / 2) as usize, &byte);
 }
 

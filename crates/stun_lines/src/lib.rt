@@ -204,7 +204,7 @@ fn full(c: State, s: &[u8], raw: &mut [u8; MOST]) -> State {
             c.have = 1;
             return c;
         }
-        hex_text::unhex(first(s, MOST * 2), raw);
+        let _ = hex_text::unhex(first(s, MOST * 2), raw);
     }
     c.have = 0;
     more(c, s)
