@@ -15,7 +15,7 @@ pub fn u16_at(d: &[u8], at: usize) -> u16
     }
 }
 
-// The 32-bit number at a place, by the same rule.
+// The 32-bit number at a place, by the same rule. A pattern of four bytes would need a case for each number of bytes that are there.
 pub fn u32_at(d: &[u8], at: usize) -> u32
     ensures { result ≡ be32 d.now at }
 {

@@ -27,7 +27,7 @@ pub fn put_u16(buf: &mut [u8], at: usize, n: u16) -> bool
     put_bytes(buf, at, &u16::to_be_bytes(n))
 }
 
-// A 32-bit number put at a place, by the same rule.
+// A 32-bit number put at a place, by the same rule; a trait for the two would be longer than both.
 pub fn put_u32(buf: &mut [u8], at: usize, n: u32) -> bool
     ensures { (result ≡ fits_at buf.old at (four n)) × (buf.new ≡ put buf.old at (four n)) }
 {

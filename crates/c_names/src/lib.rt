@@ -8,7 +8,7 @@ ghost use Rattle.c_names.specs.Name.{told, class_told};
 use wire::method::Method;
 use wire::types::class_numbered;
 
-// The first `size` bytes of the text; empty where there is no name.
+// As include/cratehoist.h has it: the first `size` bytes of the text; empty where there is no name.
 #[repr(C)]
 #[derive(Clone, Copy, Debug, PartialEq, Eq)]
 pub struct Name {

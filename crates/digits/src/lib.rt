@@ -5,7 +5,7 @@ ghost use Rattle.std.specs.Prelude.{◌≡◌, ◌<◌};
 ghost use Rattle.digits.specs.Digit.{first_bad};
 ghost use Rattle.digits.specs.Number.{number_said, value_from, number_of};
 
-// The place of the first character that is no hex digit; the text's size where all are.
+// The place of the first character that is no hex digit; the text's size where all are, as the public clause has it.
 pub fn first_bad(s: &[u8]) -> usize
     ensures { result ≡ first_bad s.now }
 {

@@ -43,7 +43,7 @@ fn in_attribute(d: &[u8], number: u8, place: usize) -> Span
     }
 }
 
-// The bytes that a number of the reader is about; the place is that of the attribute at fault.
+// The bytes that a number of the reader is about, as docs/NUMBERS.md counts them; the place is that of the attribute at fault.
 pub fn blame(d: &[u8], number: u8, place: usize) -> Span
     ensures { result ≡ blamed d.now number place }
 {

@@ -42,6 +42,7 @@ fn spell(s: &[u8], out: &mut [u8])
 }
 
 // Puts the bytes that s spells at the front of out, as far as there is room; where s is no hex, nothing changes.
+#[tactic(auto, using(std::proofs::lemmas::Bool::Decides::nat_tests), unfolding(crate::specs::Hex::hex_said, crate::specs::Hex::hex_of, crate::specs::Hex::read))]
 pub fn unhex(s: &[u8], out: &mut [u8]) -> Result<usize, HexFault>
     ensures { (hex_said result ≡ hex_said (hex_of s.now)) × (out.new ≡ read (hex_of s.now) out.old s.now) }
 {
