@@ -13,7 +13,7 @@ use stun_io::input::read_some;
 use stun_io::status::Told;
 use stun_io::words::is_blank;
 
-// As much as is read at a time.
+// As much as is read at a time, into an array: the program asks for no memory.
 const FILE: usize = 65600;
 
 // A datagram's first bytes, as many as were kept, and how many there are in all.

@@ -6,10 +6,10 @@ use crate::status::Status;
 use std::fmt;
 use std::io::{self, Error, ErrorKind, Write};
 
-pub const ROOM: usize = 65536;
+const ROOM: usize = 65536;
 
-// What waits to be written stands at the front of the buffer, which is no Vec: no answer has to wait for memory. Beside it the
-// first write that failed, and what the input makes the program end with.
+// What waits to be written stands at the front of the buffer, which is an array as all of the program's are: no input ends it for want
+// of memory. Beside it the first write that failed, and what the input makes the program end with.
 #[derive(Drop)]
 pub struct Output {
     rt: HostRuntime,

@@ -48,7 +48,8 @@ impl Long {
     }
 }
 
-// How many lines are past and were answered, the long line that is under way, and the first bytes of a datagram.
+// How many lines are past and were answered, the long line that is under way, and the first bytes of a datagram, in an array: the
+// program asks for no memory.
 #[derive(Drop)]
 struct Lines<'a> {
     rt: HostRuntime,

@@ -100,7 +100,7 @@ fn refused(page: &mut Page, d: &[u8], total: u64, n: u8) {
     told(page, d, n, 0);
 }
 
-// What a number makes the program end with.
+// What a number makes the program end with. It is a number here, as in the two contracts that say which it is.
 fn status_of(n: u8) -> u8
     ensures { result ≡ min 1 n }
 {

@@ -19,7 +19,8 @@ type Written = Result<usize, Refusal>;
 const LARGEST: usize = 131072;
 
 // The buffer that the calls work on, the first bytes of a store, and room for the bytes that the fields of a line say: the longest
-// line has 262,143 characters, so no field says more than that, and no `load` more than the store has.
+// line has 262,143 characters, so no field says more than that, and no `load` more than the store has. They are arrays, since the program
+// asks for no memory. A ghost field for the size would be plainer than a test of it, but a struct that has one lends no part of an array.
 #[derive(Drop)]
 pub struct Buffer {
     store: [u8; LARGEST],

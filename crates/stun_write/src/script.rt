@@ -9,7 +9,8 @@ use stun_io::words::is_comment;
 // As many characters as a line has at most, with its end.
 pub const LONGEST: usize = 262144;
 
-// How much of the buffer is read, where the next line starts, and whether the input has ended.
+// How much of the buffer, which is an array since the program asks for no memory, is read, where the next line starts, and whether the
+// input has ended.
 #[derive(Drop)]
 pub struct Script {
     rt: HostRuntime,

@@ -1,90 +1,54 @@
 // The reader: examples of docs/SCOPE.md and docs/DIFFERENCES.md, and what those pages say of each.
-ghost use Rattle.std.specs.Prelude.{◌<◌};
-
-use crate::printing::{put, put_decimal};
 use read_message::Answer;
-
-fn number(rt: HostRuntime, n: u64) {
-    put(rt, b" ");
-    put_decimal(rt, n);
-}
-
-fn kind(rt: HostRuntime, name: &[u8], reason: u8, class: u16, method: u16) {
-    put(rt, name);
-    number(rt, reason as u64);
-    number(rt, class as u64);
-    number(rt, method as u64);
-}
+use std::io::{Result, Write};
 
 // Kind, number, class, method, count, place.
-fn told(rt: HostRuntime, d: &[u8]) {
-    let r = read_message::read(d);
-    let answer = r.answer;
-    match answer {
+fn told(rt: HostRuntime, d: &[u8]) -> Result<()> {
+    match read_message::read(d).answer {
         Answer::Whole {
             class,
             method,
             count,
-        } => {
-            kind(rt, b" whole", 0, class.as_u16(), method.code);
-            ended(rt, count, 0);
-        }
+        } => println!(rt; " whole 0 {} {} {count} 0", class.as_u16(), method.code),
         Answer::Broken {
             class,
             method,
             reason,
             place,
-        } => {
-            kind(rt, b" broken", reason, class.as_u16(), method.code);
-            ended(rt, 0, place);
-        }
-        Answer::Refused { number: n } => {
-            kind(rt, b" refused", n, 0, 0);
-            ended(rt, 0, 0);
-        }
+        } => println!(rt;
+            " broken {reason} {} {} 0 {place}",
+            class.as_u16(),
+            method.code
+        ),
+        Answer::Refused { number } => println!(rt; " refused {number} 0 0 0 0"),
     }
 }
 
-fn ended(rt: HostRuntime, count: usize, place: usize) {
-    number(rt, count as u64);
-    number(rt, place as u64);
-    put(rt, b"\n");
+fn case(rt: HostRuntime, name: &[u8], d: &[u8]) -> Result<()> {
+    print!(rt; "reader ")?;
+    rt.stdout().write_all(name)?;
+    told(rt, d)
 }
 
-fn case(rt: HostRuntime, name: &[u8], d: &[u8]) {
-    put(rt, b"reader ");
-    put(rt, name);
-    told(rt, d);
-}
-
-pub fn wide(b: u8) -> usize
-    ensures { result < 256 }
-{
-    b as usize
-}
-
-// Cases one after the other: the sizes of name and datagram in a byte each, the name, the datagram.
-fn each(rt: HostRuntime, s: &[u8]) {
-    let mut at = 0;
-    while at < s.len() {
-        if s.len() - at < 2 {
-            return;
-        }
-        let from = at + 2;
-        let size = wide(s[at + 1]);
-        let name = wide(s[at]);
-        if s.len() - from < name + size {
-            return;
-        }
-        let middle = from + name;
-        let end = middle + size;
-        case(rt, &s[from..middle], &s[middle..end]);
-        at = end;
+// Cases one after the other: the sizes of name and datagram in a byte each, the name, the datagram. They are one text, since each text
+// costs the prover what three statements do.
+fn each(rt: HostRuntime, s: &[u8]) -> Result<()> {
+    let mut rest = s;
+    while let [name, size, behind @ ..] = rest {
+        let Some((name, behind)) = behind.split_at_checked(usize::from(*name)) else {
+            break;
+        };
+        let Some((d, behind)) = behind.split_at_checked(usize::from(*size)) else {
+            break;
+        };
+        case(rt, name, d)?;
+        rest = behind;
     }
+    Ok(())
 }
 
 // The sheet's P7, REALM at its limit, and FINGERPRINT twice or not last.
-fn values(rt: HostRuntime) {
+fn values(rt: HostRuntime) -> Result<()> {
     each(
         rt,
         b"\x02\x20P7\x01\x01\x00\x0C\x21\x12\xA4B\x00\x01\x02\x03\x04\x05\x06\x07\x08\x09\x0A\x0B\x00\x20\x00\x08\
@@ -99,11 +63,11 @@ fn values(rt: HostRuntime) {
         \x80\x28\x00\x04\xB2\xAA\xF9\xF6\x80\x28\x00\x04U\x83\xDBk\
         \x14\x20fingerprint_not_last\x00\x01\x00\x0C\x21\x12\xA4B\x00\x00\x00\x00\x00\x00\x00\x00\x00\x00\x00\x00\
         \x80\x28\x00\x04\xB2\xAA\xF9\xF6\x80\x22\x00\x00",
-    );
+    )
 }
 
 // Where the Rust or RFC 5389 answers otherwise: sections 1, 2 and 5 of docs/DIFFERENCES.md.
-fn differs(rt: HostRuntime) {
+fn differs(rt: HostRuntime) -> Result<()> {
     each(
         rt,
         b"\x03\x1C1.2\x01\x11\x00\x08\x21\x12\xA4B\x00\x00\x00\x00\x00\x00\x00\x00\x00\x00\x00\x00\x00\x09\x00\x04\
@@ -127,32 +91,29 @@ fn differs(rt: HostRuntime) {
         \x03\x205.1\x01\x11\x00\x0C\x21\x12\xA4B\x00\x00\x00\x00\x00\x00\x00\x00\x00\x00\x00\x00\x80\x22\x00\x00\
         \x00\x09\x00\x04\x00\x00\x02\x00\
         \x03\x145.2\x00\x01\x00\x00\x00\x00\x00\x00\x00\x00\x00\x00\x00\x00\x00\x00\x00\x00\x00\x00",
-    );
+    )
 }
 
 // A datagram of so many bytes: its front, zeros, and what it ends in.
-fn long(rt: HostRuntime, name: &[u8], size: usize, front: &[u8], end: &[u8]) {
+fn long(rt: HostRuntime, name: &[u8], size: usize, front: &[u8], end: &[u8]) -> Result<()> {
     let mut d = [0u8; 65552];
-    if d.len() < size {
-        return;
-    }
-    if size < end.len() {
-        return;
+    if d.len() < size || size < end.len() {
+        return Ok(());
     }
     buffers::put_bytes(&mut d, 0, front);
     buffers::put_bytes(&mut d, size - end.len(), end);
-    case(rt, name, &d[0..size]);
+    case(rt, name, &d[..size])
 }
 
 // FINGERPRINT behind 65,536 bytes, section 1.5 of that page, and behind 65,544, as far back as one can start: right and wrong.
-fn far(rt: HostRuntime) {
+fn far(rt: HostRuntime) -> Result<()> {
     long(
         rt,
         b"1.5",
         65544,
         b"\x00\x01\xFF\xF4\x21\x12\xA4B\x00\x00\x00\x00\x00\x00\x00\x00\x00\x00\x00\x00\xC0\x01\xFF\xE8",
         b"\x80\x28\x00\x04\xED\x5C\x11\xF4",
-    );
+    )?;
     let front: &[u8] =
         b"\x00\x01\xFF\xFC\x21\x12\xA4B\x00\x00\x00\x00\x00\x00\x00\x00\x00\x00\x00\x00\xC0\x01\xFF\xF0";
     long(
@@ -161,18 +122,18 @@ fn far(rt: HostRuntime) {
         65552,
         front,
         b"\x80\x28\x00\x04M\xE7\x5E\xBC",
-    );
+    )?;
     long(
         rt,
         b"fingerprint_farthest_wrong",
         65552,
         front,
         b"\x80\x28\x00\x04M\xE7\x5E\xBD",
-    );
+    )
 }
 
 // Its section 7.
-fn cut(rt: HostRuntime) {
+fn cut(rt: HostRuntime) -> Result<()> {
     each(
         rt,
         b"\x03\x137.1\x00\x01\x00\x00\x21\x12\xA4B\x00\x00\x00\x00\x00\x00\x00\x00\x00\x00\x00\
@@ -196,11 +157,11 @@ fn cut(rt: HostRuntime) {
         \x04\x1C7.12\x00\x01\x00\x08\x21\x12\xA4B\x00\x00\x00\x00\x00\x00\x00\x00\x00\x00\x00\x00\x80\x22\x00\x02\
         \xC0\x80\x00\x00\
         \x04\x187.13\x00\x01\x00\x04\x21\x12\xA4B\x00\x00\x00\x00\x00\x00\x00\x00\x00\x00\x00\x00\x80\x22\x00\x00",
-    );
+    )
 }
 
 // Values below and above their size: 7.14 to 7.17.
-fn sizes(rt: HostRuntime) {
+fn sizes(rt: HostRuntime) -> Result<()> {
     each(
         rt,
         b"\x04\x187.14\x00\x01\x00\x04\x21\x12\xA4\x42\x00\x00\x00\x00\x00\x00\x00\x00\x00\x00\x00\x00\x00\x08\x00\
@@ -211,11 +172,11 @@ fn sizes(rt: HostRuntime) {
         \x05\xB2\xAA\xF9\xF6\x00\x00\x00\x00\
         \x04\x187.17\x01\x11\x00\x04\x21\x12\xA4\x42\x00\x00\x00\x00\x00\x00\x00\x00\x00\x00\x00\x00\x00\x09\x00\
         \x00",
-    );
+    )
 }
 
 // Its section 8.
-fn rfc(rt: HostRuntime) {
+fn rfc(rt: HostRuntime) -> Result<()> {
     each(
         rt,
         b"\x0A\x308.1_behind\x00\x01\x00\x1C\x21\x12\xA4B\x00\x00\x00\x00\x00\x00\x00\x00\x00\x00\x00\x00\x00\x08\
@@ -232,14 +193,14 @@ fn rfc(rt: HostRuntime) {
         \x80\x22\x00\x01\xFF\x00\x00\x00\
         \x03\x1C8.8\x00\x01\x00\x08\x21\x12\xA4B\x00\x00\x00\x00\x00\x00\x00\x00\x00\x00\x00\x00\x80\x28\x00\x04\
         \x00\x00\x00\x00",
-    );
+    )
 }
 
-pub fn run(rt: HostRuntime) {
-    values(rt);
-    differs(rt);
-    far(rt);
-    cut(rt);
-    sizes(rt);
-    rfc(rt);
+pub fn run(rt: HostRuntime) -> Result<()> {
+    values(rt)?;
+    differs(rt)?;
+    far(rt)?;
+    cut(rt)?;
+    sizes(rt)?;
+    rfc(rt)
 }
