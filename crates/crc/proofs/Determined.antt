@@ -1,5 +1,5 @@
 -- The contract of the public call determines its answer.
-use Prim.Native.Nat.{ℕ}
+use Rattle.std.proofs.Common.{ℕ}
 use Rattle.base.specs.DeterminedLaws.{by}
 use Rattle.base.specs.Determined.{Determines}
 use Rattle.crc.specs.Octets.{times}

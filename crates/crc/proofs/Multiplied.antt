@@ -1,8 +1,6 @@
 -- The loop of the product: what is added already and what the digits that are left add.
-use mathlib.Core.Path.{◌≡◌, refl, sym, ap, ap₂, ◌∙◌}
-use Prim.Native.Nat.{ℕ, suc, ◌+◌, ◌-◌, ◌*◌, ◌/◌, ◌%◌, ◌^◌, ◌≤◌, ◌<◌}
-use native.Mathlib.Omega.{arith}
-use lib.Bits.{bit_xor, xor_zero_l, xor_zero_r}
+use Rattle.std.proofs.Common.{◌≡◌, refl, sym, ap, ap₂, ◌∙◌, ℕ, suc, ◌+◌, ◌*◌, ◌/◌, ◌%◌, ◌^◌, ◌≤◌, ◌<◌, arith, bit_xor}
+use Rattle.std.specs.Int.Bits.{xor_zero_l, xor_zero_r}
 use Rattle.base.specs.XorLaws.{xor_assoc}
 use Rattle.crc.specs.Crc.{bit_step}
 use Rattle.crc.specs.Octets.{times}
@@ -53,10 +51,8 @@ pub record Left (k : ℕ) (s r : Factors) (j : ℕ) : Type 0 where
 pub left_start : (k : ℕ) (s : Factors) → Left k s s k
 left_start k s = record { same = refl }
 
-pub left_turn : {k j : ℕ} {s r q : Factors} → Left k s r j → 0 < j → Taken 1 r q → Left k s q (j - 1)
-left_turn {k} {j} {s} {r} {q} g h t =
-    let e : 1 + (j - 1) ≡ j = omega arith in
-    record { same = t.same (j - 1) ∙ ap (λ (n : ℕ). comes_to n r) e ∙ g.same }
+pub left_turn : {k i j : ℕ} {s r q : Factors} → Left k s r j → 1 + i ≡ j → Taken 1 r q → Left k s q i
+left_turn {k} {i} {j} {s} {r} {q} g e t = record { same = t.same i ∙ ap (λ (n : ℕ). comes_to n r) e ∙ g.same }
 
 pub left_nought : {k j : ℕ} {s r : Factors} → Left k s r j → r.t ≡ 0 → r.sum ≡ comes_to k s
 left_nought {k} {j} {s} {r} g e =

@@ -1,4 +1,4 @@
--- Any number of steps by one product: what m = bitSteps n 0x8000_0000 became tells what every register becomes.
+-- Any number of steps by one product: what m = bit_steps n 0x8000_0000 became tells what every register becomes.
 use Rattle.std.specs.Prelude.{◌≡◌, refl, ℕ, zero, suc, ◌+◌, ◌*◌, ◌/◌, ◌%◌, ◌^◌, ◌<◌}
 use Rattle.std.proofs.Common.{sym, ap, ap₂, ◌∙◌, subst, arith, add-mul, mul_assoc, mod-lt, pow-suc, pow-add, pow_pos, shl_lt, shr_lt}
 use Rattle.std.proofs.Math.Pow.{split}

@@ -11,10 +11,7 @@ ghost use Rattle.crc.specs.Taken.{Taken};
 fn added(a: u32, t: u32, m: u32) -> u32
     ensures { result ≡ bit_xor a (t / 2 ^ 31 * m) }
 {
-    if t < 0x8000_0000 {
-        return a;
-    }
-    a ^ m
+    if t < 0x8000_0000 { a } else { a ^ m }
 }
 
 fn bit_step(m: u32) -> u32
@@ -58,13 +55,11 @@ fn digits(k: u32, s: Factors) -> u32
     ensures { result ≡ bit_xor s.sum (times k s.t s.m) }
 {
     let mut s = s;
-    let mut k = k;
-    while 0 < k {
+    for _ in 0..k {
         if s.t == 0 {
             return s.sum;
         }
         s = digit(s);
-        k -= 1;
     }
     s.sum
 }

@@ -1,7 +1,5 @@
 -- All ones at the start and at the end.
-use mathlib.Core.Path.{◌≡◌, ap, ◌∙◌}
-use mathlib.Core.List.{List}
-use Prim.Native.Nat.{ℕ}
+use Rattle.std.proofs.Common.{◌≡◌, ap, ◌∙◌, List, ℕ}
 use Rattle.crc.specs.Crc.{bytes_from, finished, crc32_of}
 
 pub whole : (s : List ℕ) {c r : ℕ} → c ≡ bytes_from 0xFFFF_FFFF s → r ≡ finished c → r ≡ crc32_of s

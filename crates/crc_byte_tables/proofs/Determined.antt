@@ -1,6 +1,5 @@
 -- The contract of each public call determines its answer.
-use Prim.Native.Nat.{ℕ}
-use mathlib.Core.List.{List}
+use Rattle.std.proofs.Common.{ℕ, List}
 use Rattle.base.specs.DeterminedLaws.{by}
 use Rattle.base.specs.Determined.{Determines}
 use Rattle.crc_byte_tables.specs.Tables.{byte_rows, four_by, eight_by}

@@ -1,13 +1,6 @@
 -- A register by bytes, as the code looks them up, and the rows of bytes, made one entry after the other.
-use mathlib.Core.Path.{◌≡◌, refl, sym, ap, ap₂, ◌∙◌}
-use mathlib.Core.List.{List, [], ◌∷◌, ◌++◌}
-use Prim.Native.Nat.{ℕ, ◌+◌, ◌-◌, ◌*◌, ◌/◌, ◌%◌, ◌≤◌, ◌<◌}
-use borrow.Author.Tests.{lt-ltb, le-ltb}
-use native.Mathlib.Numerals.{add-one}
-use native.Mathlib.Omega.{arith}
-use lib.ListN.{length, get_or, take, set, replicate, length-set}
-use lib.Seq.{take-suc-set, take_all, get_or-take}
-use lib.Bits.{bit_xor, xor_zero_r}
+use Rattle.std.proofs.Common.{◌≡◌, refl, sym, ap, ap₂, ◌∙◌, List, [], ◌∷◌, ◌++◌, ℕ, ◌+◌, ◌-◌, ◌*◌, ◌/◌, ◌%◌, ◌≤◌, ◌<◌, lt-ltb, le-ltb, add-one, arith, length, get_or, take, set, replicate, length-set, take-suc-set, take_all, get_or-take, bit_xor}
+use Rattle.std.specs.Int.Bits.{xor_zero_r}
 use Rattle.crc.specs.Crc.{bit_steps, byte_step, bytes_from}
 use Rattle.crc.specs.Octets.{octets}
 use Rattle.crc.proofs.CrcLaws.{bit_steps-split, octets_add}

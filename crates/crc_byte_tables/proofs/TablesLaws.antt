@@ -1,8 +1,8 @@
 -- Tables that are lent take the steps that they are for.
 use Rattle.std.specs.Prelude.{◌≡◌, refl, Bool, true, false, List, [], ◌∷◌, ◌++◌, ℕ, zero, suc, ◌+◌, ◌*◌, ◌/◌, ◌%◌, ◌^◌, ◌≤◌, ◌<◌, eqb, get_or}
-use Rattle.std.proofs.Common.{sym, ap₂, ◌∙◌, not-suc-le-zero, arith, length-append}
+use Rattle.std.proofs.Common.{sym, ap₂, ◌∙◌, not-suc-le-zero, arith, length-append, lt-ltb, le-ltb, eqb-true}
 use Rattle.std.proofs.Math.Path.{ap}
-use borrow.Author.Tests.{lt-ltb, le-ltb, eqb-true, eqb-false}
+use Rattle.std.proofs.lemmas.Bool.{eqb-false}
 use Rattle.std.proofs.Math.ListN.{length, get_or-append}
 use Rattle.std.proofs.Math.Seq.{get_or-append_seam}
 use Rattle.std.specs.Int.Bits.{bit_xor}

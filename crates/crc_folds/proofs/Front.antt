@@ -1,11 +1,7 @@
 -- The first four bytes alone, where the size is four to seven above whole words, so that less than four are left behind the words.
-use mathlib.Core.Path.{◌≡◌, ap, ◌∙◌}
-use mathlib.Core.List.{List}
-use Prim.Native.Nat.{ℕ, ◌+◌, ◌-◌, ◌*◌, ◌/◌, ◌%◌, ◌^◌, ◌≤◌, ◌<◌}
-use native.Mathlib.Omega.{arith}
-use lib.ListN.{length, drop, take, length-drop}
-use lib.Pow.{shl_exact}
-use lib.Bits.{bit_xor, xor_zero_l, xor_lt}
+use Rattle.std.proofs.Common.{◌≡◌, ap, ◌∙◌, List, ℕ, ◌+◌, ◌-◌, ◌*◌, ◌/◌, ◌%◌, ◌^◌, ◌≤◌, ◌<◌, arith, length, drop, take, length-drop, shl_exact, bit_xor}
+use Rattle.std.specs.Int.Bits.{xor_zero_l}
+use Rattle.std.proofs.lemmas.Nat.{xor_lt}
 use Rattle.crc.specs.Crc.{bit_steps, bytes_from}
 use Rattle.crc.specs.Octets.{octets, word}
 use Rattle.crc.proofs.CrcLaws.{bit_steps-add, bit_steps-shift, octets_lt}

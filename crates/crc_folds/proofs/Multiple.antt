@@ -1,12 +1,6 @@
 -- Multiples of the polynomial: x^(64 + k), and x^(k - j) for each tap j. By such a one a word may as well be added at the taps.
-use mathlib.Core.Path.{◌≡◌, refl, sym, ap, ap₂, ◌∙◌}
-use mathlib.Core.List.{List}
-use Prim.Native.Nat.{ℕ, ◌+◌, ◌-◌, ◌*◌, ◌/◌, ◌%◌, ◌^◌, ◌≤◌, ◌<◌}
-use native.Mathlib.Nat.{mod-lt}
-use native.Mathlib.Omega.{arith}
-use lib.ListN.{length}
-use lib.Pow.{pow_pos, shl_lt}
-use lib.Bits.{bit_xor, xor_comm, xor_lt}
+use Rattle.std.proofs.Common.{◌≡◌, refl, sym, ap, ap₂, ◌∙◌, List, ℕ, ◌+◌, ◌-◌, ◌*◌, ◌/◌, ◌%◌, ◌^◌, ◌≤◌, ◌<◌, mod-lt, arith, length, pow_pos, shl_lt, bit_xor}
+use Rattle.std.proofs.lemmas.Nat.{xor_comm, xor_lt}
 use Rattle.crc.specs.Crc.{bit_step, bit_steps, bytes_from}
 use Rattle.crc.specs.Octets.{octets, times}
 use Rattle.crc.proofs.CrcLaws.{bit_steps-xor, bit_steps-add, bit_steps-shift, bit_steps-split, bit_steps-down, wider, carried}

@@ -1,13 +1,8 @@
 -- Words that wait: the numbers that fold and settle make of them, and what the loops over words keep.
-use mathlib.Core.Path.{◌≡◌, refl, sym, ap, ap₂, ◌∙◌}
-use mathlib.Core.Logic.{inl, inr, ⊎_elim}
-use mathlib.Core.List.{List}
-use Prim.Native.Nat.{ℕ, zero, suc, ◌+◌, ◌-◌, ◌*◌, ◌/◌, ◌%◌, ◌^◌, ◌≤◌, ◌<◌}
-use native.Mathlib.Nat.{add-zero, mod-lt, mul_assoc}
-use native.Mathlib.Omega.{arith}
-use lib.ListN.{length, drop, take, length-drop}
-use lib.Pow.{pow_pos, shl-shr, shr-shr, shr_lt, split, high, low}
-use lib.Bits.{bit_xor, xor_zero_r, xor_comm, xor_lt, xor_shifted, xor_block}
+use Rattle.std.proofs.Common.{◌≡◌, refl, sym, ap, ap₂, ◌∙◌, inl, inr, ⊎_elim, List, ℕ, zero, suc, ◌+◌, ◌-◌, ◌*◌, ◌/◌, ◌%◌, ◌^◌, ◌≤◌, ◌<◌, add-zero, mod-lt, mul_assoc, arith, length, drop, take, length-drop, pow_pos, shr-shr, shr_lt, bit_xor}
+use Rattle.std.proofs.lemmas.Nat.{shl-shr, xor_comm, xor_lt, xor_block}
+use Rattle.std.proofs.Math.Pow.{split, high, low}
+use Rattle.std.specs.Int.Bits.{xor_zero_r, xor_shifted}
 use Rattle.base.specs.XorLaws.{xor_assoc, xor_swap}
 use Rattle.crc.specs.Crc.{bit_steps, bytes_from}
 use Rattle.crc.specs.Octets.{octets, word}

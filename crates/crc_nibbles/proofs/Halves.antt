@@ -1,13 +1,5 @@
 -- A register by half bytes, as the code looks them up.
-use mathlib.Core.Path.{◌≡◌, refl, sym, ap, ap₂, ◌∙◌}
-use mathlib.Core.List.{List, ◌∷◌}
-use Prim.Native.Nat.{ℕ, ◌+◌, ◌*◌, ◌/◌, ◌%◌, ◌≤◌, ◌<◌}
-use borrow.Author.Tests.{lt-ltb, le-ltb}
-use native.Mathlib.Numerals.{add-one}
-use native.Mathlib.Omega.{arith}
-use lib.ListN.{length, get_or, drop, drop_of_length-le}
-use lib.Seq.{drop-cons}
-use lib.Bits.{bit_xor}
+use Rattle.std.proofs.Common.{◌≡◌, refl, sym, ap, ap₂, ◌∙◌, List, ◌∷◌, ℕ, ◌+◌, ◌*◌, ◌/◌, ◌%◌, ◌≤◌, ◌<◌, lt-ltb, le-ltb, add-one, arith, length, get_or, drop, drop_of_length-le, drop-cons, bit_xor}
 use Rattle.crc_nibbles.specs.Rows.{halves, by_halves, four_halves, byte_by_byte, bytes_halves}
 
 pub halves_are : (t : List ℕ) (k x : ℕ) → bit_xor (get_or t (k * 32 + 16 + x % 16) 0) (get_or t (k * 32 + x / 16 % 16) 0) ≡ halves t k x

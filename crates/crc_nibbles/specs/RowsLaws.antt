@@ -1,8 +1,7 @@
 -- A table's rule, proved at all of its entries by one test that antt computes; and a byte by its two halves.
-use Rattle.std.specs.Prelude.{◌≡◌, Bool, true, false, ℕ, zero, suc, ◌+◌, ◌*◌, ◌/◌, ◌%◌, ◌^◌, ◌≤◌, ◌<◌, T, eqb, length, get_or}
-use Rattle.std.proofs.Math.Path.{refl, sym, ap}
+use Rattle.std.specs.Prelude.{◌≡◌, Bool, true, false, ℕ, zero, suc, ◌+◌, ◌*◌, ◌/◌, ◌%◌, ◌^◌, ◌≤◌, ◌<◌, T, eqb, length, get_or, List, [], ◌∷◌}
 use Rattle.std.proofs.Common.{ap₂, subst, ◌∙◌, add-zero, zero-add, add-suc, suc-add, le_of_suc-le-suc, not-suc-le-zero, arith, le-ltb, eqb→eq}
-use mathlib.Core.List.{List, [], ◌∷◌}
+use Rattle.std.proofs.Math.Path.{refl, sym, ap}
 use Rattle.std.specs.Int.Bits.{bit_xor, xor_zero_r}
 use Rattle.base.specs.Choice.{pick}
 use Rattle.base.specs.XorLaws.{xor_assoc}

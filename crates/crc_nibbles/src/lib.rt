@@ -34,11 +34,9 @@ pub fn bytes(t: &[u32], c: u32, s: &[u8]) -> u32
     if t.len() < 32 {
         return r;
     }
-    let mut i = 0;
-    while i < s.len() {
-        let x = r ^ (s[i] as u32);
+    for b in s {
+        let x = r ^ (*b as u32);
         r = look(t, 0, x) ^ (x / 256);
-        i += 1;
     }
     r
 }

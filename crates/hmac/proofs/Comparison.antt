@@ -1,8 +1,9 @@
 -- Two digests compared over all their bytes: what differs is gathered, and is nought at the end only if nothing differed.
-use Rattle.std.proofs.Common.{◌≡◌, ℕ, suc, Bool, true, false, ◌&&◌, List, [], ◌∷◌, length, eqb, ◌⊎◌, inl, inr, refl, sym, ap, ◌∙◌, arith}
+use Rattle.std.proofs.Common.{◌≡◌, ℕ, suc, Bool, true, false, ◌&&◌, List, [], ◌∷◌, length, eqb, ◌⊎◌, inl, inr, refl, sym, ap, ◌∙◌, arith, eqb-true, eq-eqb, ne_eqb, bit_or, bit_xor}
 use Rattle.std.proofs.lemmas.List.{nil_from_length}
-use borrow.Author.Tests.{eqb-true, eqb-false, eq-eqb, ne_eqb}
-use lib.Bits.{bit_or, bit_xor, or_zero_l, or_add_and, and_le_l, and_le_r, xor_self}
+use Rattle.std.proofs.lemmas.Bool.{eqb-false}
+use Rattle.std.specs.Int.Bits.{or_zero_l, or_add_and, xor_self}
+use Rattle.std.proofs.lemmas.Nat.{and_le_l, and_le_r}
 use Rattle.base.specs.XorLaws.{xor_eq}
 use Rattle.base.specs.SameLaws.{same_eq}
 use Rattle.base.specs.Same.{same}

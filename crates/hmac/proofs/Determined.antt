@@ -1,17 +1,14 @@
 -- The contract of each public call determines its result.
-use Prim.Native.Nat.{ℕ}
-use mathlib.Core.List.{List}
-use lib.ListN.{take}
+use Rattle.std.proofs.Common.{ℕ, List, take, Bool}
 use Rattle.base.specs.DeterminedLaws.{by}
 use Rattle.base.specs.Determined.{Determines}
 use Rattle.big_endian.specs.Numbers.{with_length}
 use Rattle.hmac.specs.Hmac.{hmac_of}
+use Rattle.base.specs.Same.{same}
 use Rattle.hmac.proofs.hmac.Kinds as hmac_kinds
 use Rattle.hmac.proofs.hmac.Reads as hmac_reads
 use Rattle.hmac.proofs.hmac_front.Kinds as front_kinds
 use Rattle.hmac.proofs.hmac_front.Reads as front_reads
-use mathlib.Core.Bool.{Bool}
-use Rattle.base.specs.Same.{same}
 use Rattle.hmac.proofs.digests.same_digest.Kinds as same_digest_kinds
 use Rattle.hmac.proofs.digests.same_digest.Reads as same_digest_reads
 

@@ -1,14 +1,7 @@
 -- The key's blocks, and the two hashes behind them.
-use mathlib.Core.Path.{◌≡◌, refl, sym, ap, ◌∙◌}
-use mathlib.Core.List.{List, [], ◌∷◌, ◌++◌, map, append-nil}
-use Prim.Native.Nat.{ℕ, zero, suc, ◌+◌, ◌≤◌, ◌<◌}
-use native.Mathlib.Numerals.{add-one}
-use native.Mathlib.Nat.{not-suc-le-zero, le_of_suc-le-suc}
-use native.Mathlib.Omega.{arith}
-use borrow.Author.Tests.{le-leb, lt-leb}
-use lib.ListN.{length, take, drop, get_or, set, length-append, length-map, drop_of_length-le}
-use lib.Seq.{take_all}
-use lib.Bits.{bit_xor}
+use Rattle.std.proofs.Common.{◌≡◌, refl, sym, ap, ◌∙◌, List, [], ◌∷◌, ◌++◌, map, append-nil, ℕ, zero, suc, ◌+◌, ◌≤◌, ◌<◌, add-one, not-suc-le-zero, le_of_suc-le-suc, arith, le-leb, length, take, drop, get_or, set, length-append, drop_of_length-le, take_all, bit_xor}
+use Rattle.std.proofs.lemmas.Bool.{lt-leb}
+use Rattle.std.proofs.lemmas.List.{length-map}
 use Rattle.sha1_digest.specs.declared.compression.State.{State}
 use Rattle.sha1_digest.specs.Compression.{start, compress, run}
 use Rattle.sha1_digest.specs.CompressionLaws.{run_one}

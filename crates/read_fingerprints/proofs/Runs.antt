@@ -1,4 +1,6 @@
 -- The register carried from FINGERPRINT to FINGERPRINT: what the functions of the run return.
+use Rattle.std.specs.Int.{from_le_bytes}
+use Rattle.std.proofs.Common.{w32, []}
 use Prim.Native.Nat.{ℕ, ◌+◌, ◌-◌, ◌*◌, ◌^◌, ◌≤◌, ◌<◌}
 use mathlib.Core.List.{List, [], ◌∷◌, ◌++◌, append-nil}
 use mathlib.Core.Path.{◌≡◌, refl, sym, ap, ap₂, ◌∙◌, subst}
@@ -104,14 +106,14 @@ word_four a b c e h i j k =
 
 module _ (d : List ℕ) where
   -- the four bytes at a place as a number
-  pub word_is : (p : ℕ) {a b c e : ℕ} → p + 4 ≤ length d → (a ≡ get_or d p 0) × (a < 256) → (b ≡ get_or d (p + 1) 0) × (b < 256)
-      → (c ≡ get_or d (p + 2) 0) × (c < 256)
-      → (e ≡ get_or d (p + 2 + 1) 0) × (e < 256)
-      → a + b * 256 + (c + e * 256) * 65536 ≡ word (take 4 (drop p d))
-  word_is p {a} {b} {c} {e} l h i j k =
-      let q : a + b * 256 + (c + e * 256) * 65536 ≡ a + b * 256 + c * 65536 + e * 16777216 = omega arith in
-      let s : drop p d ≡ a ∷ b ∷ c ∷ e ∷ drop (p + 4) d = rw (h.0, i.0, j.0, k.0, four_at d p l) in
-      q ∙ word_four a b c e h.1 i.1 j.1 k.1 ∙ sym (ap (λ (t : List ℕ). word (take 4 t)) s)
+  pub word_is : (p : ℕ) {w : ℕ} → p + 4 ≤ length d → ((i : ℕ) → get_or d i 0 < 256)
+      → w ≡ from_le_bytes w32 (get_or d p 0 ∷ get_or d (p + 1) 0 ∷ get_or d (p + 2) 0 ∷ get_or d (p + 3) 0 ∷ []) → w ≡ word (take 4 (drop p d))
+  word_is p l h e =
+      let k : p + 2 + 1 ≡ p + 3 = omega arith in
+      let s : drop p d ≡ get_or d p 0 ∷ get_or d (p + 1) 0 ∷ get_or d (p + 2) 0 ∷ get_or d (p + 3) 0 ∷ drop (p + 4) d =
+      four_at d p l ∙ ap (λ (j : ℕ). get_or d p 0 ∷ get_or d (p + 1) 0 ∷ get_or d (p + 2) 0 ∷ get_or d j 0 ∷ drop (p + 4) d) k in
+      e ∙ word_four (get_or d p 0) (get_or d (p + 1) 0) (get_or d (p + 2) 0) (get_or d (p + 3) 0) (h p) (h (p + 1)) (h (p + 2)) (h (p + 3))
+      ∙ sym (ap (λ (t : List ℕ). word (take 4 t)) s)
 
   pub record Worded (n p at sum power : ℕ) : Type 0 where
     pub sums : sum ≡ register d at n

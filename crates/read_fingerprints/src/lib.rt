@@ -74,20 +74,12 @@ fn carried(d: &[u8], run: Running, p: usize) -> Running
     }
 }
 
-fn wide(x: u8) -> u32
-    ensures { (result ≡ x) × (result < 256) }
-{
-    x as u32
-}
-
 // Four bytes as a number, the first lowest.
 fn low_word(d: &[u8], at: usize) -> u32
     requires { at + 4 ≤ length d.now }
     ensures { result ≡ word (take 4 (drop at d.now)) }
 {
-    let low = wide(d[at]) + wide(d[at + 1]) * 256;
-    let high = wide(d[at + 2]) + wide(d[at + 2 + 1]) * 256;
-    low + high * 65536
+    u32::from_le_bytes([d[at], d[at + 1], d[at + 2], d[at + 3]])
 }
 
 // Carried by a lent table, four bytes a turn: for the few bytes between two FINGERPRINTs.

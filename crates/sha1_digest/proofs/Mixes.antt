@@ -1,7 +1,7 @@
 -- The first function in three operations: the word that x does not choose, changed where x chooses the other.
-use Rattle.std.proofs.Common.{◌≡◌, ℕ, zero, suc, ◌+◌, ◌-◌, ◌*◌, ◌/◌, ◌%◌, ◌^◌, ◌<◌, min, sym, refl, ap, ◌∙◌, mod-lt, pow-suc, arith}
-use native.Mathlib.Nat.{min-le_left}
-use lib.Bits.{bit_and, bit_xor, and_step}
+use Rattle.std.proofs.Common.{◌≡◌, ℕ, zero, suc, ◌+◌, ◌-◌, ◌*◌, ◌/◌, ◌%◌, ◌^◌, ◌<◌, min, sym, refl, ap, ◌∙◌, mod-lt, pow-suc, arith, bit_and, bit_xor}
+use Rattle.std.proofs.Math.Nat.{min-le_left}
+use Rattle.std.specs.Int.Bits.{and_step}
 use Rattle.base.specs.XorLaws.{same, xor_half, xor_odd}
 use Rattle.sha1_digest.specs.Compression.{ch}
 

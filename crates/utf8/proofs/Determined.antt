@@ -1,13 +1,11 @@
 -- The contract of the public call determines what it answers.
-use Prim.Native.Nat.{ℕ}
-use mathlib.Core.List.{List}
-use mathlib.Core.Bool.{Bool}
+use Rattle.std.proofs.Common.{ℕ, List, Bool}
 use Rattle.base.specs.DeterminedLaws.{by}
 use Rattle.base.specs.Determined.{Determines}
 use Rattle.utf8_spec.specs.Utf8.{is_utf8}
+use Rattle.utf8_spec.specs.Points.{points}
 use Rattle.utf8.proofs.is_utf8.Kinds as check_kinds
 use Rattle.utf8.proofs.is_utf8.Reads as check_reads
-use Rattle.utf8_spec.specs.Points.{points}
 use Rattle.utf8.proofs.points.code_points.Kinds as count_kinds
 use Rattle.utf8.proofs.points.code_points.Reads as count_reads
 

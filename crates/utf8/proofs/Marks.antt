@@ -1,18 +1,11 @@
 -- The top bits of bytes, taken together: none is set where each byte is below 128.
-use Prim.Native.Nat.{ℕ, zero, suc, ◌+◌, ◌-◌, ◌*◌, ◌^◌, ◌≤◌, ◌<◌}
-use mathlib.Core.List.{List, [], ◌∷◌}
-use mathlib.Core.Bool.{Bool, ◌&&◌, and_assoc}
-use mathlib.Core.Path.{◌≡◌, refl, sym, ap, ◌∙◌}
-use native.Mathlib.Omega.{arith}
-use native.Mathlib.Decide.{dec_le}
-use native.Mathlib.Numerals.{add-one}
-use lib.Bits.{bit_and, bit_or, and_block, and_shifted, and_comm, and_zero_r, or_add_and, and_le_l, and_le_r}
-use lib.ListN.{length, get_or, take, drop}
-use lib.Seq.{drop-cons, drop-drop}
-use lib.Dec.{leb, eqb}
-use Rattle.std.proofs.Common.{◌++◌, w64}
+use Rattle.std.proofs.Common.{ℕ, zero, suc, ◌+◌, ◌-◌, ◌*◌, ◌^◌, ◌≤◌, ◌<◌, List, [], ◌∷◌, Bool, ◌&&◌, ◌≡◌, refl, sym, ap, ◌∙◌, arith, add-one, bit_and, bit_or, length, get_or, take, drop, drop-cons, drop-drop, leb, eqb, ◌++◌, w64, le-leb, eq-eqb, ne_eqb}
+use Rattle.std.proofs.lemmas.Nat.{and_block, and_comm, and_le_l, and_le_r}
+use Rattle.std.proofs.Math.Bool.{and_assoc}
+use Rattle.std.proofs.Math.Decide.{dec_le}
+use Rattle.std.specs.Int.Bits.{and_shifted, and_zero_r, or_add_and}
 use Rattle.std.specs.Int.{from_le_bytes}
-use borrow.Author.Tests.{le-leb, lt-leb, eq-eqb, ne_eqb}
+use Rattle.std.proofs.lemmas.Bool.{lt-leb}
 use Rattle.base.specs.Bytes.{Bytes}
 use Rattle.utf8_spec.specs.Utf8.{begins}
 use Rattle.utf8.specs.Steps.{ones}

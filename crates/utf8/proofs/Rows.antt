@@ -1,14 +1,6 @@
 -- What `width_at` answers: each call that it makes is a row of the grammar, and the bytes in between start no row.
-use Prim.Native.Nat.{ℕ, suc, ◌+◌, ◌≤◌, ◌<◌}
-use mathlib.Core.List.{List, [], ◌∷◌, ◌++◌}
-use mathlib.Core.Bool.{Bool, true, false, ◌&&◌, false≢true}
-use mathlib.Core.Path.{◌≡◌, refl, sym, ap, ◌∙◌}
-use native.Mathlib.Omega.{arith}
-use native.Mathlib.Numerals.{add-one}
-use lib.ListN.{length, get_or, drop}
-use lib.Seq.{drop-cons}
-use lib.Dec.{leb}
-use borrow.Author.Tests.{leb-true, le-leb}
+use Rattle.std.proofs.Common.{ℕ, suc, ◌+◌, ◌≤◌, ◌<◌, List, [], ◌∷◌, ◌++◌, Bool, true, false, ◌&&◌, ◌≡◌, refl, sym, ap, ◌∙◌, arith, add-one, length, get_or, drop, drop-cons, leb, leb-true, le-leb}
+use Rattle.std.proofs.lemmas.Bool.{false≢true}
 use Rattle.base.specs.Choice.{pick}
 use Rattle.utf8_spec.specs.Utf8.{◌to◌, Sequence, UTF8-1, UTF8-2, UTF8-3, UTF8-4, UTF8-char, OneOf, begins, first, width}
 use Rattle.utf8_spec.specs.Utf8Laws.{and_left, and_right, apart, row, first_below, first_past, width_one}

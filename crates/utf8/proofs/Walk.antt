@@ -1,14 +1,7 @@
 -- From a place to a later one by whole characters: the steps of the loops, and what `is_utf8` answers.
-use Prim.Native.Nat.{ℕ, zero, suc, ◌+◌, ◌≤◌, ◌<◌}
-use mathlib.Core.List.{List, [], ◌∷◌}
-use mathlib.Core.Bool.{Bool, true, false, false≢true}
-use mathlib.Core.Path.{◌≡◌, refl, sym, ap, ◌∙◌}
-use native.Mathlib.Omega.{arith}
-use native.Mathlib.Decide.{dec_le}
-use lib.ListN.{length, get_or, drop, drop_of_length-le, length-drop}
-use lib.Seq.{drop-cons, drop-drop}
-use lib.Dec.{ltb}
-use borrow.Author.Tests.{ltb-true, ltb-false}
+use Rattle.std.proofs.Common.{ℕ, zero, suc, ◌+◌, ◌≤◌, ◌<◌, List, [], ◌∷◌, Bool, true, false, ◌≡◌, refl, sym, ap, ◌∙◌, arith, length, get_or, drop, drop_of_length-le, length-drop, drop-cons, drop-drop, ltb, ltb-true, ltb-false}
+use Rattle.std.proofs.lemmas.Bool.{false≢true}
+use Rattle.std.proofs.Math.Decide.{dec_le}
 use Rattle.utf8_spec.specs.Utf8.{Sequence, UTF8-char, OneOf, begins, width, is_utf8}
 use Rattle.utf8_spec.specs.Utf8Laws.{is_most, is_rest, begins_fits, width_found, utf8_empty, utf8_width, utf8_none, utf8_row, utf8_ascii}
 use Rattle.utf8.specs.Places.{width_at}

@@ -95,6 +95,7 @@ fn tops(s: &[u8], i: usize) -> u64
     word & 0x8080_8080_8080_8080
 }
 
+// Two functions, for one word and for four: a loop over words would say no more, and the turn below wants both.
 fn ascii_8(s: &[u8], i: usize) -> bool
     requires { i + 8 ≤ length s.now }
     ensures { result ≡ begins (ones 8) (drop i s.now) }

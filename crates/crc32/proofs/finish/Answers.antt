@@ -1,5 +1,5 @@
 -- The sum is the register with every bit turned.
-use mathlib.Core.Path.{refl}
+use Rattle.std.proofs.Common.{refl}
 use Rattle.crc32.proofs.finish.Goals as goal
 
 pub returns : goal.returns

@@ -1,8 +1,7 @@
 -- The small table passes the test of its rule.
-use mathlib.Core.Path.{◌∙◌}
+use Rattle.std.proofs.Common.{◌∙◌, rules}
 use Rattle.crc.specs.Crc.{bit_step, bit_steps}
 use Rattle.crc_nibbles.specs.RowsLaws.{rows, bytes_halves_lem}
-use borrow.Author.Rules.{rules}
 use Rattle.crc32.proofs.update.Goals as goal
 
 pub returns-then-s-lt8 : goal.returns-then-s-lt8

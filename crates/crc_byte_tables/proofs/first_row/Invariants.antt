@@ -1,4 +1,4 @@
-use Prim.Native.Nat.{◌-◌}
+use Rattle.std.proofs.Common.{◌-◌}
 use Rattle.crc_byte_tables.proofs.Making.{Making}
 use Rattle.crc_byte_tables.proofs.first_row.Given as goal
 

@@ -1,5 +1,5 @@
+use Rattle.std.proofs.Common.{rules}
 use Rattle.crc_byte_tables.proofs.Making.{more_start, more_turn, more_done}
-use borrow.Author.Rules.{rules}
 use Rattle.crc_byte_tables.proofs.more_rows.Goals as goal
 
 pub loop-i-init : goal.loop-i-init

@@ -1,9 +1,8 @@
 -- What waits, with the next word taken through its steps.
-use native.Mathlib.Omega.{arith}
-use lib.Bits.{xor_lt}
+use Rattle.std.proofs.Common.{arith, rules}
+use Rattle.std.proofs.lemmas.Nat.{xor_lt}
 use Rattle.crc_folds.specs.Waits.{register}
 use Rattle.crc_folds.proofs.Waits.{settle_is}
-use borrow.Author.Rules.{rules}
 use Rattle.crc_folds.proofs.settle.Goals as goal
 
 pub returns : goal.returns

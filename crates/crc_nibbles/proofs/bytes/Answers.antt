@@ -4,11 +4,11 @@ use Rattle.crc_nibbles.proofs.bytes.Goals as goal
 pub returns-then-t-lt32 : goal.returns-then-t-lt32
 returns-then-t-lt32 c = search (bytes_none)
 
-pub loop-i-init : goal.loop-i-init
-loop-i-init c = search (byted_start)
+pub loop-b-init : goal.loop-b-init
+loop-b-init c = search (byted_start)
 
-pub loop-i-preserved : goal.loop-i-preserved
-loop-i-preserved c = search (byted_turn)
+pub loop-b-preserved : goal.loop-b-preserved
+loop-b-preserved c = search (byted_turn)
 
 pub returns : goal.returns
 returns c = search (byted_done)

@@ -1,6 +1,5 @@
+use Rattle.std.proofs.Common.{length, ◌-◌}
 use Rattle.utf8.specs.Steps.{On}
-use lib.ListN.{length}
-use Prim.Native.Nat.{◌-◌}
 use Rattle.utf8.proofs.past.Given as goal
 
 abbrev pub invariant-loop-j : goal.invariant-loop-j

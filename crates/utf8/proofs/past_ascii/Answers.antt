@@ -1,6 +1,5 @@
+use Rattle.std.proofs.Common.{arith, rules}
 use Rattle.utf8.proofs.Walk.{here, on_later, on_ones, past_one, past_to, past_all}
-use native.Mathlib.Omega.{arith}
-use borrow.Author.Rules.{rules}
 use Rattle.utf8.proofs.past_ascii.Goals as goal
 
 pub returns-then-s-from-ge128 : goal.returns-then-s-from-ge128
