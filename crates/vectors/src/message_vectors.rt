@@ -1,6 +1,5 @@
 // RFC 5769's messages: read, checked under their keys and under a key with one bit changed, their addresses and realms.
 use read_integrity::check_integrity;
-use read_message::Answer;
 use read_realm::realm_to_use;
 use read_typed::Value;
 use registry::ErrorCode;
@@ -9,6 +8,7 @@ use registry::errors::{
 };
 use registry::methods::BINDING;
 use std::io::{Result, Write};
+use wire::refusal::number_of;
 use wire::transaction_id::TransactionId;
 
 const XOR_MAPPED_ADDRESS: u16 = 0x0020;
@@ -24,26 +24,28 @@ fn hex(rt: HostRuntime, s: &[u8]) -> Result<()> {
 
 // The reader's answer.
 fn read(rt: HostRuntime, section: &str, d: &[u8]) -> Result<()> {
-    let r = read_message::read(d);
-    let id = r.id;
     print!(rt; "message {section}")?;
-    match r.answer {
-        Answer::Whole {
-            class,
-            method,
-            count,
-        } => {
-            print!(rt; " whole {} {} {count} ", class.as_u16(), method.code)?;
-            hex(rt, &id.bytes)?;
-        }
-        Answer::Broken { reason, place, .. } => print!(rt; " broken {reason} {place}")?,
-        Answer::Refused { number } => print!(rt; " refused {number}")?,
+    match read_message::read(d) {
+        Ok(reading) => match reading.attributes {
+            Ok(count) => {
+                let (class, method) = (reading.class.as_u16(), reading.method.code);
+                print!(rt; " whole {class} {method} {count} ")?;
+                hex(rt, &reading.id.bytes)?;
+            }
+            Err(fault) => print!(rt; " broken {} {}", fault.reason.number, fault.place)?,
+        },
+        Err(refusal) => print!(rt; " refused {}", refusal.number)?,
     }
     println!(rt)
 }
 
+// What the check of a signature comes to.
+fn signed(d: &[u8], key: &[u8]) -> u8 {
+    number_of(check_integrity(d, key))
+}
+
 fn checked(rt: HostRuntime, name: &str, d: &[u8], key: &[u8]) -> Result<()> {
-    println!(rt; "message {name} {}", check_integrity(d, key))
+    println!(rt; "message {name} {}", signed(d, key))
 }
 
 // A datagram with FINGERPRINT is whole only where that is right.
@@ -64,13 +66,13 @@ fn realm(rt: HostRuntime, section: &str, d: &[u8], site: &[u8]) -> Result<()> {
 
 // XOR-MAPPED-ADDRESS: family, port and IP.
 fn address(rt: HostRuntime, section: &str, d: &[u8]) -> Result<()> {
-    let id = read_message::read(d).id;
+    let Ok(reading) = read_message::read(d) else {
+        return Ok(());
+    };
     let value = read_first::first_value(d, XOR_MAPPED_ADDRESS);
-    let t = read_typed::value_of(XOR_MAPPED_ADDRESS, value, id);
-    let ip = t.ip;
-    if let Value::Address { family, port } = t.value {
-        print!(rt; "message {section}_address {} {port} ", family.as_u8())?;
-        hex(rt, &ip)?;
+    if let Ok(Value::Address(a)) = read_typed::value_of(XOR_MAPPED_ADDRESS, value, reading.id) {
+        print!(rt; "message {section}_address {} {} ", a.family.as_u8(), a.port)?;
+        hex(rt, &a.ip)?;
         println!(rt)?;
     }
     Ok(())
@@ -85,8 +87,8 @@ fn message(
     site: &[u8],
 ) -> Result<()> {
     read(rt, section, d)?;
-    println!(rt; "message {section}_integrity {}", check_integrity(d, key))?;
-    println!(rt; "message {section}_other_key {}", check_integrity(d, other))?;
+    println!(rt; "message {section}_integrity {}", signed(d, key))?;
+    println!(rt; "message {section}_other_key {}", signed(d, other))?;
     fingerprint(rt, section, d)?;
     realm(rt, section, d, site)?;
     address(rt, section, d)
@@ -174,8 +176,8 @@ fn no_integrity(rt: HostRuntime) -> Result<()> {
 
 // A key, and another one.
 fn keyed(rt: HostRuntime, name: &str, d: &[u8], key: &[u8], other: &[u8]) -> Result<()> {
-    println!(rt; "message {name} {}", check_integrity(d, key))?;
-    println!(rt; "message {name}_other {}", check_integrity(d, other))
+    println!(rt; "message {name} {}", signed(d, key))?;
+    println!(rt; "message {name}_other {}", signed(d, other))
 }
 
 // Keys of 0, 64 and 65 bytes, 0, 1, 2 and so on. The digests are those of Python's hmac.
@@ -249,7 +251,7 @@ fn written_back(rt: HostRuntime, error: ErrorCode, phrase: &[u8]) -> Result<()> 
     let mut buf = *b"\x01\x11\x00\x00!\x12\xA4B\x00\x01\x02\x03\x04\x05\x06\x07\x08\x09\x0A\x0B\
         ------------";
     print!(rt; " {} {} ", error.code, error.reserved)?;
-    write_error_code::append_error_code(&mut buf, error, phrase);
+    let _ = write_error_code::append_error_code(&mut buf, error, phrase);
     hex(rt, &buf[20..])?;
     println!(rt)
 }
@@ -258,8 +260,8 @@ fn written_back(rt: HostRuntime, error: ErrorCode, phrase: &[u8]) -> Result<()> 
 fn reserved(rt: HostRuntime, name: &str, value: &[u8]) -> Result<()> {
     print!(rt; "message {name}")?;
     let id = TransactionId { bytes: [0; 12] };
-    match read_typed::value_of(ERROR_CODE, value, id).value {
-        Value::Code(error) => written_back(rt, error, read_typed::part_of(ERROR_CODE, value)),
+    match read_typed::value_of(ERROR_CODE, value, id) {
+        Ok(Value::Code(error)) => written_back(rt, error, read_typed::part_of(ERROR_CODE, value)),
         _ => println!(rt; " no code"),
     }
 }

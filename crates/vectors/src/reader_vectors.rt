@@ -1,26 +1,20 @@
 // The reader: examples of docs/SCOPE.md and docs/DIFFERENCES.md, and what those pages say of each.
-use read_message::Answer;
 use std::io::{Result, Write};
 
 // Kind, number, class, method, count, place.
 fn told(rt: HostRuntime, d: &[u8]) -> Result<()> {
-    match read_message::read(d).answer {
-        Answer::Whole {
-            class,
-            method,
-            count,
-        } => println!(rt; " whole 0 {} {} {count} 0", class.as_u16(), method.code),
-        Answer::Broken {
-            class,
-            method,
-            reason,
-            place,
-        } => println!(rt;
-            " broken {reason} {} {} 0 {place}",
-            class.as_u16(),
-            method.code
+    let reading = match read_message::read(d) {
+        Ok(reading) => reading,
+        Err(refusal) => return println!(rt; " refused {} 0 0 0 0", refusal.number),
+    };
+    let (class, method) = (reading.class.as_u16(), reading.method.code);
+    match reading.attributes {
+        Ok(count) => println!(rt; " whole 0 {class} {method} {count} 0"),
+        Err(fault) => println!(rt;
+            " broken {} {class} {method} 0 {}",
+            fault.reason.number,
+            fault.place
         ),
-        Answer::Refused { number } => println!(rt; " refused {number} 0 0 0 0"),
     }
 }
 
