@@ -1,6 +1,6 @@
--- What yes says.
-use Rattle.std.specs.Prelude.{ℕ, List, [], ◌∷◌, Bool, true, false, ◌&&◌, ◌≡◌, refl, eqb}
-use Rattle.std.proofs.Common.{arith, eq-eqb, eqb-true}
+-- What yes says, and the loop that compares two lists place by place.
+use Rattle.std.specs.Prelude.{ℕ, suc, ◌<◌, List, [], ◌∷◌, Bool, true, false, ◌&&◌, ◌≡◌, refl, length, get_or, drop, eqb}
+use Rattle.std.proofs.Common.{ap, ◌∙◌, arith, eq-eqb, ne_eqb, eqb-true, drop-cons}
 use Rattle.std.proofs.Math.Path.{ap₂}
 use Rattle.base.specs.Same.{same}
 
@@ -23,3 +23,16 @@ pub same_refl : (s : List ℕ) → same s s ≡ true
 unfolding same
 same_refl [] = refl
 same_refl (a ∷ s) = rw (eq-eqb a a refl) (same_refl s)
+
+module _ (s t : List ℕ) (i : ℕ) (h : i < length s) (k : i < length t) where
+  heads : same (drop i s) (drop i t) ≡ eqb (get_or s i 0) (get_or t i 0) && same (drop (suc i) s) (drop (suc i) t)
+  unfolding same
+  heads = ap₂ same (drop-cons s i 0 h) (drop-cons t i 0 k)
+
+  -- a place where they agree can be passed
+  pub same_turn : get_or s i 0 ≡ get_or t i 0 → same (drop i s) (drop i t) ≡ same (drop (suc i) s) (drop (suc i) t)
+  same_turn e = heads ∙ ap (λ (q : Bool). q && same (drop (suc i) s) (drop (suc i) t)) (eq-eqb (get_or s i 0) (get_or t i 0) e)
+
+  -- a place where they differ decides
+  pub same_differs : (get_or s i 0 ≡ get_or t i 0 → ⊥) → same (drop i s) (drop i t) ≡ false
+  same_differs e = heads ∙ ap (λ (q : Bool). q && same (drop (suc i) s) (drop (suc i) t)) (ne_eqb (get_or s i 0) (get_or t i 0) e)

@@ -1,3 +1,4 @@
 pub mod Lists
 pub mod Ascii
 pub mod Names
+pub mod TableLaws
