@@ -9,7 +9,8 @@ use big_endian::u16_at;
 use wire::refusal::Refusal;
 
 // What stands at a place: an attribute, whose value is `size` bytes from `value` on and whose padding ends at `next`; the end; or the cut.
-#[derive(Clone, Copy)]
+// Three ends, so no Option and no Result.
+#[derive(Clone, Copy, Debug, PartialEq, Eq)]
 pub enum Walk {
     Attribute {
         at: usize,

@@ -11,7 +11,7 @@ use wire::refusal::Refusal;
 use wire::transaction_id::TransactionId;
 use wire::types::{MessageClass, MessageType};
 
-#[derive(Clone, Copy)]
+#[derive(Clone, Copy, Debug, PartialEq, Eq)]
 pub struct Header {
     pub class: MessageClass,
     pub method: Method,

@@ -21,6 +21,7 @@ pub struct SocketAddr {
     pub ip: [u8; 16],
 }
 
+// By the name that wire has for such conversions.
 impl Family {
     pub fn as_u8(self) -> u8
         ensures { result ≡ family_number self }

@@ -15,7 +15,7 @@ use wire::transaction_id::TransactionId;
 use wire::types::MessageClass;
 
 // A datagram with a STUN header.
-#[derive(Clone, Copy)]
+#[derive(Clone, Copy, Debug, PartialEq, Eq)]
 pub struct Reading {
     pub class: MessageClass,
     pub method: Method,

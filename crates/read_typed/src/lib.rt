@@ -12,7 +12,7 @@ use wire::refusal::Refusal;
 use wire::transaction_id::TransactionId;
 
 // What a value says. `Plain`: its bytes as they stand are all it says.
-#[derive(Clone, Copy)]
+#[derive(Clone, Copy, Debug, PartialEq, Eq)]
 pub enum Value {
     Address(SocketAddr),
     Code(ErrorCode),

@@ -1,4 +1,5 @@
-// The error codes that RFC 5389 section 15.6 names, each with its phrase.
+// The error codes that RFC 5389 section 15.6 names, each with its phrase: a type for each, as stun_codec has them
+// (docs/MOVING-FROM-STUN-CODEC.md).
 
 #[derive(Clone, Copy)]
 pub struct TryAlternate {}

@@ -12,7 +12,7 @@ pub mod errors;
 pub mod methods;
 
 // What a value owes besides its size, and how it is read and written.
-#[derive(Clone, Copy)]
+#[derive(Clone, Copy, Debug, PartialEq, Eq)]
 pub enum Rule {
     Plain,
     Address,
@@ -23,14 +23,14 @@ pub enum Rule {
 }
 
 // What an ERROR-CODE says beside its phrase; the reserved bits are a number up to 2,097,151.
-#[derive(Clone, Copy)]
+#[derive(Clone, Copy, Debug, PartialEq, Eq)]
 pub struct ErrorCode {
     pub code: u16,
     pub reserved: u32,
 }
 
 // One for each kind.
-#[derive(Clone, Copy)]
+#[derive(Clone, Copy, Debug, PartialEq, Eq)]
 pub struct Row {
     pub kind: u16,
     pub least: u16,

@@ -4,11 +4,12 @@ ghost use Rattle.wire.specs.TypeNumber.{method_made, new_method_said};
 
 use crate::refusal::Refusal;
 
-#[derive(Clone, Copy)]
+#[derive(Clone, Copy, Debug, PartialEq, Eq)]
 pub struct Method {
     pub code: u16,
 }
 
+// By stun_codec's names, as in `types`.
 impl Method {
     // The method of a number; above 4,095 it is refused by 22.
     pub fn new(codepoint: u16) -> Result<Method, Refusal>

@@ -5,7 +5,7 @@ ghost use Rattle.wire.specs.TypeNumber.{class_number, at_most_three, type_number
 use crate::method::Method;
 use crate::refusal::Refusal;
 
-#[derive(Clone, Copy)]
+#[derive(Clone, Copy, Debug, PartialEq, Eq)]
 pub enum MessageClass {
     Request,
     Indication,
@@ -13,12 +13,13 @@ pub enum MessageClass {
     ErrorResponse,
 }
 
-#[derive(Clone, Copy)]
+#[derive(Clone, Copy, Debug, PartialEq, Eq)]
 pub struct MessageType {
     pub class: MessageClass,
     pub method: Method,
 }
 
+// Conversions have the names that stun_codec has for them (docs/MOVING-FROM-STUN-CODEC.md), and so are no From and TryFrom.
 impl MessageClass {
     // 0 request, 1 indication, 2 success, 3 error.
     pub fn as_u16(self) -> u16

@@ -8,7 +8,7 @@ use attribute::{Walk, step};
 use wire::refusal::{Refusal, refused_by};
 
 // Where an attribute goes: to `at`; then the body has `body` bytes and the message `total`.
-#[derive(Clone, Copy)]
+#[derive(Clone, Copy, Debug, PartialEq, Eq)]
 pub struct Room {
     pub at: usize,
     pub body: u16,
