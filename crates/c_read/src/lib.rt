@@ -10,7 +10,8 @@ ghost use Rattle.c_read.specs.Reading.{said, step_out};
 use attribute::Walk;
 use c_wire::Id;
 
-// `what` is 0 for whole, 1 for broken and 2 for refused; `number` is 0 where whole.
+// `what` is 0 for whole, 1 for broken and 2 for refused; `number` is 0 where whole. A struct of include/cratehoist.h, which has numbers
+// for kinds, since C has no `Result`; so has the next.
 #[repr(C)]
 #[derive(Clone, Copy)]
 pub struct Reading {

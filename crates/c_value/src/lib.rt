@@ -11,7 +11,8 @@ ghost use Rattle.c_value.specs.Part.{first_out, value_in, realm_in};
 use read_first::Found;
 use wire::refusal::number_of;
 
-// Where the first attribute of a type starts, and the size of its value.
+// Where the first attribute of a type starts, and the size of its value. As include/cratehoist.h has it, since C has no `Option`; so has the
+// next.
 #[repr(C)]
 #[derive(Clone, Copy)]
 pub struct First {
@@ -89,6 +90,7 @@ pub fn cratehoist_realm(datagram: &[u8], configured: &[u8]) -> Part
     }
 }
 
+// A number, 0 where nothing is refused: include/cratehoist.h has it so.
 pub fn cratehoist_check_integrity(datagram: &[u8], key: &[u8]) -> u8
     ensures { result ≡ integrity_fault rfc5389 datagram.now key.now }
 {

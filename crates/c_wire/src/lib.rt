@@ -23,7 +23,7 @@ pub struct Address {
     pub ip: [u8; 16],
 }
 
-// An address in the other form, where `number` is 0.
+// An address in the other form, where `number` is 0: a struct of include/cratehoist.h, since C has no `Result`.
 #[repr(C)]
 #[derive(Clone, Copy)]
 pub struct XorForm {

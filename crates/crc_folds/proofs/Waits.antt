@@ -289,10 +289,6 @@ module _ {v : ℕ} {s : List ℕ} {n i w m : ℕ} (g : Waits v s n i) where
   settled_turn h l e p =
       turned h e (ap (λ (x : ℕ). bytes_from x (drop (i + 8) s)) p) (rw p (fits_settled n (length s - i) w g.fits h l))
 
--- the rest is left to another
-pub waits_rest : {v : ℕ} {s : List ℕ} {n i x : ℕ} → Waits v s n i → x ≡ bytes_from n (drop i s) → x ≡ v
-waits_rest g e = e ∙ g.left
-
 -- less than a word is left, so the register is back in the lowest word
 module _ {v : ℕ} {s : List ℕ} (f : Waiting) {i : ℕ} (g : Waits v s (register f) i) (h : length s - i < 8) (l : f.a < 2 ^ 64) where
   back : register f ≡ f.a

@@ -75,7 +75,8 @@ fn better(best: Span, at: usize, size: usize) -> Span
     }
 }
 
-// The first of the longest runs of two or more zeros; of no places where there is none.
+// The first of the longest runs of two or more zeros; of no places where there is none, as the public clause has it. A run may start at any
+// place, so each is tried.
 pub fn longest_zeros(groups: &[u16]) -> Span
     ensures { result ≡ longest groups.now }
 {

@@ -24,6 +24,7 @@ fn nibble(b: u8) -> u8
 }
 
 #[tactic(auto, unfolding(crate::specs::Hex::glyph_of))]
+// Not by `char::from_digit`, which answers an `Option` of a letter.
 fn glyph(d: u8) -> u8
     requires { d < 16 }
     ensures { result ≡ glyph_of d }

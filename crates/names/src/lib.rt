@@ -42,7 +42,7 @@ pub fn code(n: u16) -> &'static str
     }
 }
 
-// What a number of docs/NUMBERS.md is called there.
+// What a number of docs/NUMBERS.md is called there. A number and no `Refusal`, since 0, by which nothing is refused, has a name too.
 pub fn number(n: u8) -> &'static str
     ensures { result.now ≡ number_name n }
 {

@@ -13,7 +13,7 @@ pub enum Family {
     Ipv6,
 }
 
-// An IP of 4 bytes stands in the first four.
+// An IP of 4 bytes stands in the first four: one form for both families, as `addr_xor` and C have it.
 #[derive(Clone, Copy, Debug, PartialEq, Eq)]
 pub struct SocketAddr {
     pub family: Family,
@@ -21,7 +21,7 @@ pub struct SocketAddr {
     pub ip: [u8; 16],
 }
 
-// By the name that wire has for such conversions.
+// Conversions by name, as in `wire`.
 impl Family {
     pub fn as_u8(self) -> u8
         ensures { result ≡ family_number self }

@@ -1,5 +1,5 @@
 -- What `find` and `has` return, case by case.
-use Rattle.std.specs.Prelude.{ℕ, List, Bool, true, false, ◌≡◌, refl, Result, Ok, Err, Option, Some, None, is_ok, is_some}
+use Rattle.std.specs.Prelude.{ℕ, List, Bool, true, false, ◌≡◌, refl, Result, Ok, Err, Option, None, is_ok, is_some}
 use Rattle.std.proofs.Common.{sym, ap, ◌∙◌}
 use Rattle.base.specs.Choice.{pick}
 use Rattle.wire.specs.declared.refusal.Refusal.{Refusal}

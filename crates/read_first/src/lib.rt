@@ -53,7 +53,8 @@ pub fn has(d: &[u8], kind: u16) -> bool
     find(d, kind).is_some()
 }
 
-// The value of the first attribute of the type: a part of the datagram and no copy. Empty where there is none; `has` tells.
+// The value of the first attribute of the type: a part of the datagram and no copy. Empty where there is none, as the public clause has it;
+// `has` tells.
 pub fn first_value<'a>(d: &'a [u8], kind: u16) -> &'a [u8]
     ensures { (result.now ≡ value_of (first rfc5389 kind d.now)) × (result.ref_ptr ≡ (d.entry.ref_ptr.0, value_at (first rfc5389 kind d.now) + d.entry.ref_ptr.1)) }
 {

@@ -11,9 +11,8 @@ use Rattle.registry.specs.Rows.{rfc5389}
 use Rattle.read_fingerprints.specs.Fingerprints.{print_faults, prints_from}
 use Rattle.read_fingerprints.specs.FingerprintsLaws.{comes_to_lem}
 use Rattle.read_message.specs.Front.{Values}
-use Rattle.read_message.specs.Reading.{value_faults, and_then, outcome, reading_of}
+use Rattle.read_message.specs.Reading.{and_then, outcome, reading_of}
 use Rattle.read_message.specs.declared.Front.{Front}
-use Rattle.read_message.specs.declared.Reading.{Reading}
 
 module _ (d : List ℕ) {w : Result Front Fault} (e : Values d w) where
   pub first : {f : Fault} → w ≡ Err f → Err f ≡ outcome rfc5389 d

@@ -11,7 +11,7 @@ use Rattle.wire.specs.declared.refusal.Refusal.{Refusal}
 use Rattle.wire.specs.declared.types.MessageClass.{MessageClass}
 use Rattle.header.specs.Header.{header_fault, id_of}
 use Rattle.attribute.specs.Attribute.{Body, rest, parse}
-use Rattle.attribute.specs.Scan.{Scan, scan, scan_said, scanned, Pass}
+use Rattle.attribute.specs.Scan.{Scan, scan, scanned, Pass}
 use Rattle.attribute.specs.PassLaws.{AllPass, passed_all, all_passed, fault_some}
 use Rattle.attribute.specs.declared.Fault.{Fault}
 use Rattle.registry.specs.declared.Row.{Row}

@@ -5,7 +5,6 @@ use Rattle.base.specs.Said.{Said}
 use Rattle.base.specs.SaidLaws.{one_to_one}
 use Rattle.wire.specs.TypeNumber.{class_numbered}
 use Rattle.wire.specs.TypeLaws.{class_numbered_lem}
-use Rattle.wire.specs.declared.method.Method.{Method}
 use Rattle.wire.specs.declared.refusal.Refusal.{Refusal}
 use Rattle.wire.specs.declared.types.MessageClass.{MessageClass}
 use Rattle.attribute.specs.Scan.{Scan, at_fault}

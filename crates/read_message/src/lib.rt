@@ -45,7 +45,8 @@ fn past(front: Front, at: usize, kind: u16, next: usize) -> Front
     }
 }
 
-// The attributes' values, from the first: where the FINGERPRINTs begin, or the first of 10 to 14.
+// The attributes' values, from the first: where the FINGERPRINTs begin, or the first of 10 to 14. A walk by `step`, as in `read_first` and
+// `write_plan`: an iterator would have to tell where it stopped as well.
 fn values(d: &[u8]) -> Result<Front, Fault>
     requires { 20 ≤ length d.now }
     ensures { Values d.now result }

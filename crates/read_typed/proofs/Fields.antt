@@ -23,12 +23,6 @@ use Rattle.read_typed.specs.declared.Value.{Value}
 use Rattle.read_typed.specs.declared.Value.TheVariants.{Address, Code, Plain}
 use Rattle.read_typed.specs.Typed.{family_numbered, ip_of, address_of, read_of, typed_of}
 
-pub family_1 : (n : ℕ) → n ≡ 1 → Ipv4 ≡ family_numbered n
-family_1 n e = simp (eq-eqb n 1 e)
-
-pub family_2 : (n : ℕ) → (n ≡ 1 → ⊥) → Ipv6 ≡ family_numbered n
-family_2 n e = simp (ne_eqb n 1 e)
-
 pub fields : (v : List ℕ) {b p : ℕ} {f : Family} {i : List ℕ} → b ≡ get_or v 1 0 → f ≡ family_numbered b → p ≡ be16 v 2 → i ≡ ip_of v
     → record { family = f; port = p; ip = i } ≡ address_of v
 unfolding address_of

@@ -38,6 +38,7 @@ fn ip_of(v: &[u8]) -> [u8; 16]
     ip
 }
 
+// Any number but 1 is taken for IPv6: the value was judged before.
 fn family_of(number: u8) -> Family
     ensures { result ≡ family_numbered number }
 {

@@ -86,6 +86,7 @@ impl<'a, R: Read> Source<'a, R> {
     {
         let mut reached = Reached::start();
         let mut n = have;
+        // as many turns as can ever be: what a file still has is no measure
         for _ in 0..u64::MAX {
             if n == 0 {
                 break;

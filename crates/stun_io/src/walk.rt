@@ -13,7 +13,7 @@ pub struct Attribute<'a> {
     pub padding: &'a [u8],
 }
 
-// Those that the walk visits from a place on.
+// Those that the walk visits from a place on; `left` is the measure by which it ends.
 #[derive(Clone, Copy)]
 pub struct Attributes<'a> {
     d: &'a [u8],

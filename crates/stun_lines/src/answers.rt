@@ -33,8 +33,7 @@ fn reading(out: &mut Output, d: &[u8]) {
         Err(fault) => write!(
             out,
             "broken {class} {method} {id} {} {}",
-            fault.reason.number,
-            fault.place
+            fault.reason.number, fault.place
         ),
     }
 }

@@ -209,6 +209,7 @@ pub fn run(rt: HostRuntime, job: Job<'_>) -> Status {
         raw: [0; MOST],
     };
     let mut have = 0;
+    // as many turns as can ever be: what a pipe still has is no measure
     for _ in 0..u64::MAX {
         let kept = lines.turn(&mut input, have);
         if let Some(watch) = &mut watch {

@@ -20,7 +20,7 @@ const LARGEST: usize = 131072;
 
 // The buffer that the calls work on, the first bytes of a store, and room for the bytes that the fields of a line say: the longest
 // line has 262,143 characters, so no field says more than that, and no `load` more than the store has. They are arrays, since the program
-// asks for no memory. A ghost field for the size would be plainer than a test of it, but a struct that has one lends no part of an array.
+// asks for no memory. A ghost field for the size was tried in place of a test of it: the call that lends store and room at once didn't prove.
 #[derive(Drop)]
 pub struct Buffer {
     store: [u8; LARGEST],
@@ -93,7 +93,7 @@ fn address(
     } else if is_pair(Family::Ipv6, n, bytes) {
         Family::Ipv6
     } else {
-        return Ok(write_typed::append_value(message, 23, kind, b""));
+        return Ok(write_typed::append_value(message, Refusal::VALUE.number, kind, b""));
     };
     let mut ip = [0; 16];
     buffers::put_bytes(&mut ip, 0, bytes);

@@ -35,7 +35,7 @@ impl<'a> Fields<'a> {
         Fields { rest: line }
     }
 
-    // Empty where there is none.
+    // A field is never empty, so an empty one says that there is none.
     pub fn next(&mut self) -> &'a [u8] {
         let from = self.rest.iter().position(|b| !is_blank(*b));
         let s = &self.rest[from.unwrap_or(self.rest.len())..];

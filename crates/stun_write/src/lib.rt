@@ -27,6 +27,7 @@ pub fn run(rt: HostRuntime) -> Status {
     let mut script = Script::new(rt);
     let mut buffer = Buffer::new();
     let mut out = Output::new(rt);
+    // as many turns as can ever be: what a pipe still has is no measure
     for _ in 0..u64::MAX {
         if out.failed() {
             break;

@@ -105,6 +105,7 @@ impl Script {
     // The next line. The last may have no line end.
     pub fn next(&mut self) -> Result<Option<Line>, Told> {
         let mut long = false;
+        // as many turns as can ever be
         for _ in 0..u64::MAX {
             if let Some(line) = self.ended(long) {
                 return Ok(Some(line));

@@ -9,7 +9,7 @@ pub struct Method {
     pub code: u16,
 }
 
-// By stun_codec's names, as in `types`.
+// Conversions by name, as in `types`.
 impl Method {
     // The method of a number; above 4,095 it is refused by 22.
     pub fn new(codepoint: u16) -> Result<Method, Refusal>

@@ -19,7 +19,7 @@ pub struct MessageType {
     pub method: Method,
 }
 
-// Conversions have the names that stun_codec has for them (docs/MOVING-FROM-STUN-CODEC.md), and so are no From and TryFrom.
+// Conversions have the names of the public calls (docs/PROMISES.md), and no From and TryFrom beside them: one name for one thing.
 impl MessageClass {
     // 0 request, 1 indication, 2 success, 3 error.
     pub fn as_u16(self) -> u16

@@ -35,7 +35,7 @@ fn form_of(rule: Rule, addr: SocketAddr, id: TransactionId) -> SocketAddr
     }
 }
 
-// The bytes of an address, with all 16 of the IP's.
+// The bytes of an address, with all 16 of the IP's: the longest that there can be, since the library uses no heap.
 fn address_bytes(family: u8, port: u16, ip: [u8; 16]) -> [u8; 20]
     ensures { result ≡ 0 ∷ family ∷ two port ++ ip }
 {

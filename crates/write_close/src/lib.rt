@@ -11,6 +11,7 @@ use fingerprint::{FINGERPRINT, fingerprint_at};
 use wire::refusal::Refusal;
 use write_raw::append_raw;
 
+// The number that read_integrity has, under the writer's own name for those who only write.
 pub const MESSAGE_INTEGRITY: u16 = 0x0008;
 
 // Appends FINGERPRINT.

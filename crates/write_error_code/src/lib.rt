@@ -13,7 +13,8 @@ use registry::ErrorCode;
 use wire::refusal::Refusal;
 use write_typed::{append_value, refusal_of};
 
-// The bytes of an error code and its phrase, with zeros behind.
+// The bytes of an error code and its phrase, with zeros behind: the longest that there can be, since the library uses no heap. The head is
+// laid byte by byte, as its definition has it.
 fn code_bytes(error: ErrorCode, phrase: &[u8]) -> [u8; 131]
     requires { (error.code < 700) × (error.reserved < 2097152) × (length phrase.now ≤ 127) }
     ensures { take (4 + length phrase.now) result ≡ code_value error phrase.now }

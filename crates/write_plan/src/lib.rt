@@ -41,8 +41,8 @@ fn body_at(d: &[u8]) -> Result<u16, Refusal>
     Err(Refusal::NO_MESSAGE)
 }
 
-// What appending a value of n bytes with m bytes of padding comes to. `wrong` is a number of the caller's own for the value, and none of
-// `Refusal`'s names: 0 where the caller has nothing against the value.
+// What appending a value of n bytes with m bytes of padding comes to. `wrong` is the caller's own number for the value, 0 where it has
+// nothing against it: a number and no `Refusal`, since the public clause answers for any.
 pub fn plan_for(d: &[u8], wrong: u8, n: usize, m: usize) -> Result<Room, Refusal>
     ensures { plan_said result ≡ plan_said (plan_of d.now wrong n m) }
 {

@@ -1,4 +1,4 @@
-use Rattle.std.proofs.Common.{◌≤◌, length, arith, sym, ◌∙◌}
+use Rattle.std.proofs.Common.{arith, sym, ◌∙◌}
 use mathlib.Core.Logic.{⊎_elim}
 use Rattle.registry.specs.SaidLaws.{entry_one, rule_one}
 use Rattle.read_typed.proofs.Parts.{room, faulty, faulty_at, address, address_at, xor_address, xor_address_at, phrase, phrase_at, text, text_at, types, types_at, plain, plain_at}
