@@ -1,17 +1,9 @@
 // CRC-32: the catalogue's check value, whole and in parts, and sums that zlib gives.
+use crate::counting;
 use std::io::Result;
 
 fn line(rt: HostRuntime, name: &str, sum: u32) -> Result<()> {
     println!(rt; "crc32 {name} {sum:08x}")
-}
-
-// 0 to 255
-fn counting() -> [u8; 256] {
-    let mut s = [0; 256];
-    for (b, n) in s.iter_mut().zip(0..=255) {
-        *b = n;
-    }
-    s
 }
 
 pub fn run(rt: HostRuntime) -> Result<()> {
@@ -23,5 +15,5 @@ pub fn run(rt: HostRuntime) -> Result<()> {
     line(rt, "nought", crc32::crc32(b"\x00"))?;
     line(rt, "four_ones", crc32::crc32(b"\xFF\xFF\xFF\xFF"))?;
     line(rt, "noughts_32", crc32::crc32(&[0; 32]))?;
-    line(rt, "counting_256", crc32::crc32(&counting()))
+    line(rt, "counting_256", crc32::crc32(&counting::<256>()))
 }

@@ -6,6 +6,15 @@ mod crc32_vectors;
 mod sha_vectors;
 mod utf8_vectors;
 
+// The bytes 0, 1, 2 and so on, up to 255.
+fn counting<const N: usize>() -> [u8; N] {
+    let mut s = [0; N];
+    for (b, n) in s.iter_mut().zip(0..=255) {
+        *b = n;
+    }
+    s
+}
+
 fn run(rt: HostRuntime) -> std::io::Result<()> {
     crc32_vectors::run(rt)?;
     utf8_vectors::run(rt)?;

@@ -1,5 +1,6 @@
 // SHA-1 and HMAC-SHA-1: FIPS 180-4's examples and RFC 2202's cases, and sizes where the padding or the key's form changes.
 // Of the latter the values in stdout are not published: they were made with Python's hashlib and hmac.
+use crate::counting;
 use std::io::Result;
 
 // A digest in hex, and the end of its line.
@@ -39,15 +40,6 @@ fn million() -> [u8; 20] {
     sha1_digest::padding::finish(h, 15625, b"")
 }
 
-// The bytes 0, 1, 2 and so on.
-fn counting() -> [u8; 200] {
-    let mut s = [0; 200];
-    for (b, n) in s.iter_mut().zip(0..200) {
-        *b = n;
-    }
-    s
-}
-
 fn fips_180_4(rt: HostRuntime) -> Result<()> {
     named(rt, "sha1 abc", sha1_digest::hash(b"abc"))?;
     named(
@@ -83,7 +75,7 @@ fn hmac_3(rt: HostRuntime) -> Result<()> {
 }
 
 fn hmac_4(rt: HostRuntime) -> Result<()> {
-    let key = counting();
+    let key = counting::<200>();
     let data = [0xcdu8; 50];
     named(rt, "hmac 4", hmac::hmac(&key[1..26], &data))
 }
@@ -115,36 +107,45 @@ fn hmac_7(rt: HostRuntime) -> Result<()> {
     )
 }
 
-// Messages of each size.
-fn sizes(rt: HostRuntime, s: &[u8], from: usize, to: usize) -> Result<()> {
+// A digest for each number.
+fn each<F: Fn(usize) -> [u8; 20]>(
+    rt: HostRuntime,
+    name: &str,
+    from: usize,
+    to: usize,
+    digest: F,
+) -> Result<()>
+    requires { F.IsAlwaysCallable digest }
+{
     for n in from..to {
-        if n <= s.len() {
-            numbered(rt, "sha1 size-", n, sha1_digest::hash(&s[0..n]))?;
-        }
+        numbered(rt, name, n, digest(n))?;
     }
     Ok(())
+}
+
+// Messages of each size.
+fn sizes(rt: HostRuntime, s: &[u8], from: usize, to: usize) -> Result<()> {
+    each(rt, "sha1 size-", from, to, |n| {
+        sha1_digest::hash(s.get(..n).unwrap_or_default())
+    })
 }
 
 // Keys of each size.
 fn keys(rt: HostRuntime, s: &[u8], from: usize, to: usize) -> Result<()> {
-    for n in from..to {
-        if n <= s.len() {
-            numbered(rt, "hmac key-", n, hmac::hmac(&s[0..n], b"message"))?;
-        }
-    }
-    Ok(())
+    each(rt, "hmac key-", from, to, |n| {
+        hmac::hmac(s.get(..n).unwrap_or_default(), b"message")
+    })
 }
 
 // Fronts of each size, past the datagram's too.
 fn fronts(rt: HostRuntime, d: &[u8], from: usize, to: usize) -> Result<()> {
-    for p in from..to {
-        numbered(rt, "hmac front-", p, hmac::hmac_front(b"key", d, p, 0x1234))?;
-    }
-    Ok(())
+    each(rt, "hmac front-", from, to, |p| {
+        hmac::hmac_front(b"key", d, p, 0x1234)
+    })
 }
 
 fn edges(rt: HostRuntime) -> Result<()> {
-    let s = counting();
+    let s = counting::<200>();
     sizes(rt, &s, 54, 66)?;
     sizes(rt, &s, 118, 130)?;
     keys(rt, &s, 0, 2)?;
