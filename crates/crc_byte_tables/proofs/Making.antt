@@ -1,5 +1,6 @@
 -- A register by bytes, as the code looks them up, and the rows of bytes, made one entry after the other.
-use Rattle.std.proofs.Common.{◌≡◌, sym, ap, ap₂, ◌∙◌, List, [], ◌∷◌, ◌++◌, ℕ, ◌+◌, ◌-◌, ◌*◌, ◌/◌, ◌%◌, ◌≤◌, ◌<◌, lt-ltb, le-ltb, add-one, arith, length, get_or, take, set, length-set, take-suc-set, take_all, get_or-take, bit_xor, ext_get_or, slice_index_or, drop, length-append, length-drop, take_at}
+use Rattle.std.proofs.Common.{◌≡◌, sym, ap, ap₂, ◌∙◌, List, [], ◌∷◌, ◌++◌, ℕ, ◌+◌, ◌-◌, ◌*◌, ◌/◌, ◌%◌, ◌≤◌, ◌<◌, lt-ltb, le-ltb, add-one, arith, length, get_or, take, set, length-set, take-suc-set, take_all, get_or-take, bit_xor, ext_get_or, slice_index_or, drop, length-append, length-drop, take_at, w32}
+use Rattle.std.specs.Int.{to_le_bytes}
 use Rattle.std.specs.Int.Bits.{xor_zero_r}
 use Rattle.crc.specs.Crc.{bit_steps, byte_step, bytes_from}
 use Rattle.crc.specs.Octets.{octets}
@@ -9,12 +10,15 @@ use Rattle.crc_byte_tables.specs.Tables.{byte_rows, by_bytes, four_by, eight_by}
 use Rattle.crc_byte_tables.proofs.TablesLaws.{four_few, length-byte_rows, byte_entry}
 
 module _ (t : List ℕ) (x : ℕ) where
-  pub bytes_are : (r : ℕ) {a b c d : ℕ} → a ≡ get_or t (r * 256 + 768 + x % 256) 0 → b ≡ get_or t (r * 256 + 512 + x / 256 % 256) 0
-      → c ≡ get_or t (r * 256 + 256 + x / 65536 % 256) 0
-      → d ≡ get_or t (r * 256 + x / 16777216 % 256) 0
+  pub bytes_are : (r : ℕ) {v : List ℕ} {a b c d : ℕ} → v ≡ to_le_bytes w32 x → a ≡ get_or t (r * 256 + 768 + get_or v 0 0) 0
+      → b ≡ get_or t (r * 256 + 512 + get_or v 1 0) 0 → c ≡ get_or t (r * 256 + 256 + get_or v 2 0) 0 → d ≡ get_or t (r * 256 + get_or v 3 0) 0
       → bit_xor (bit_xor a b) (bit_xor c d) ≡ by_bytes t r x
   unfolding by_bytes
-  bytes_are r e f g h = ap₂ bit_xor (ap₂ bit_xor e f) (ap₂ bit_xor g h)
+  bytes_are r {v} q e f g h =
+      ap₂ bit_xor (ap₂ bit_xor (at 768 0 e) (at 512 1 f)) (ap₂ bit_xor (at 256 2 g) (h ∙ ap (λ (w : List ℕ). get_or t (r * 256 + get_or w 3 0) 0) q))
+    where
+      at : (m k : ℕ) {y : ℕ} → y ≡ get_or t (r * 256 + m + get_or v k 0) 0 → y ≡ get_or t (r * 256 + m + get_or (to_le_bytes w32 x) k 0) 0
+      at m k e = e ∙ ap (λ (w : List ℕ). get_or t (r * 256 + m + get_or w k 0) 0) q
 
   -- what a lent table is taken for
   module _ {r : ℕ} where

@@ -5,11 +5,11 @@ ghost use Rattle.std.specs.Prelude.{◌≡◌, ◌+◌, ◌*◌, ◌≤◌, ◌%
 ghost use Rattle.crc_byte_tables.specs.Tables.{byte_rows, by_bytes, four_by, eight_by};
 
 // An entry of the row of bytes that starts at `i`.
-fn entry(t: &[u32], i: usize, x: u32) -> u32
+fn entry(t: &[u32], i: usize, b: u8) -> u32
     requires { i + 256 ≤ length t.now }
-    ensures { result ≡ get_or t.now (i + x % 256) 0 }
+    ensures { result ≡ get_or t.now (i + b) 0 }
 {
-    t[i + ((x % 256) as usize)]
+    t[i + b as usize]
 }
 
 // By rows of bytes, from row `r` on: the steps of `r` bytes and four.
@@ -18,9 +18,10 @@ fn wide(t: &[u32], r: usize, x: u32) -> u32
     ensures { result ≡ by_bytes t.now r x }
 {
     let i = r * 256;
-    let a = entry(t, i + 768, x) ^ entry(t, i + 512, x / 256);
-    let b = entry(t, i + 256, x / 65536) ^ entry(t, i, x / 16777216);
-    a ^ b
+    let [a, b, c, d] = x.to_le_bytes();
+    let low = entry(t, i + 768, a) ^ entry(t, i + 512, b);
+    let high = entry(t, i + 256, c) ^ entry(t, i, d);
+    low ^ high
 }
 
 // The steps of four bytes, by `crc_folds::tables::EIGHT_ROWS` or `byte_rows()`.
