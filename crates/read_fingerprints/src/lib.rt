@@ -91,6 +91,7 @@ fn words(t: &[u32], d: &[u8], run: Running, p: usize) -> Running
     let mut at = run.upto;
     let mut sum = run.sum;
     let mut power = run.power;
+    // An index, since the place behind the last whole word is answered too: chunks would have it counted beside them.
     while 4 <= p - at {
         sum = crc_byte_tables::four_by(t, sum ^ low_word(d, at));
         power = crc_byte_tables::four_by(t, power);
@@ -143,8 +144,7 @@ fn adjacent(t: &[u32], d: &[u8], run: Running, p: usize) -> Running
 fn field_of(n: u16) -> u32
     ensures { result ≡ field n }
 {
-    let n = n as u32;
-    (n % 256 * 256 + n / 256) * 65536
+    u32::from(n.swap_bytes()) << 16
 }
 
 // Another number in the length field.
@@ -180,10 +180,7 @@ fn register_at(t: &[u32], d: &[u8], run: Running, p: usize) -> Running
     if run.upto < 4 {
         return carried(d, begun(d), p);
     }
-    if 64 < p - run.upto {
-        return carried(d, run, p);
-    }
-    if t.len() < 128 {
+    if 64 < p - run.upto || t.len() < 128 {
         return carried(d, run, p);
     }
     if p - run.upto == 8 {
@@ -225,10 +222,7 @@ fn is_there(d: &[u8], at: usize, x: u32) -> bool
     requires { at + 4 ≤ length d.now }
     ensures { result ≡ same (take 4 (drop at d.now)) (four x) }
 {
-    if u32_at(d, at) == x {
-        return true;
-    }
-    false
+    u32_at(d, at) == x
 }
 
 // Judges the attribute at p as a FINGERPRINT: how far the register has gone, or 15. One that is none passes.
@@ -323,15 +317,8 @@ fn starting(d: &[u8], from: usize, before: usize) -> Place
     requires { 20 ≤ length d.now }
     ensures { Scanning (print_faults d.now) d.now result.at result.count (prints_from d.now from before) }
 {
-    let first = Place { at: 20, count: 0 };
-    if from < 20 {
-        return first;
-    }
-    if d.len() < from {
-        return first;
-    }
-    if from < before {
-        return first;
+    if from < 20 || d.len() < from || from < before {
+        return Place { at: 20, count: 0 };
     }
     Place {
         at: from,

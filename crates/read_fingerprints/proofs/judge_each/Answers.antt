@@ -1,10 +1,9 @@
-use mathlib.Core.Path.{refl}
 use Rattle.attribute.proofs.ScanLaws.{passed, cut, less}
 use Rattle.attribute.specs.SaidLaws.{walk_one}
 use Rattle.attribute.proofs.Stops.{stops}
 use Rattle.read_fingerprints.proofs.Runs.{unbegun}
 use Rattle.read_fingerprints.proofs.Scans.{start, print_room, print_on, print_decides, ran_on}
-use borrow.Author.Rules.{rules}
+use Rattle.std.proofs.Common.{refl, rules}
 use Rattle.read_fingerprints.proofs.judge_each.Goals as goal
 
 pub loop-kind-init : goal.loop-kind-init

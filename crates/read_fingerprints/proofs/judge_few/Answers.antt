@@ -2,7 +2,7 @@
 use Rattle.crc.specs.Crc.{bit_step, bit_steps}
 use Rattle.crc_nibbles.specs.RowsLaws.{rows}
 use Rattle.crc_byte_tables.proofs.TablesLaws.{rows_steps}
-use borrow.Author.Rules.{rules}
+use Rattle.std.proofs.Common.{rules}
 use Rattle.read_fingerprints.proofs.judge_few.Goals as goal
 
 pub judge_each-requires : goal.judge_each-requires
