@@ -16,7 +16,7 @@ pub returns-in_default : goal.returns-in_default
 returns-in_default c = search (cut, stops, c.in_default.not-Attribute, walk_one)
 
 pub print_fault-requires : goal.print_fault-requires
-print_fault-requires c = (search rules, search rules, search rules, search (print_room, walk_one))
+print_fault-requires c = (search rules, search rules, search (print_room, walk_one))
 
 pub returns-in-Err : goal.returns-in-Err
 returns-in-Err c = search (print_decides, walk_one)

@@ -12,4 +12,4 @@ pub returns-then-p-run-gt64 : goal.returns-then-p-run-gt64
 returns-then-p-run-gt64 c = (search (arrived), search (there))
 
 pub adjacent-requires : goal.adjacent-requires
-adjacent-requires c = (search rules, search rules, search rules, search rules, search (eight_on), search rules)
+adjacent-requires c = (search rules, search rules, search rules, search (eight_on), search rules)
