@@ -38,6 +38,7 @@ fn digit(s: Factors) -> Factors
     }
 }
 
+// Two and five are written out: most products need the first few digits alone, and a loop would ask at each whether one is left.
 fn two_digits(s: Factors) -> Factors
     ensures { Taken 2 s result }
 {

@@ -1,20 +1,24 @@
 -- A register by bytes, as the code looks them up, and the rows of bytes, made one entry after the other.
-use Rattle.std.proofs.Common.{◌≡◌, refl, sym, ap, ap₂, ◌∙◌, List, [], ◌∷◌, ◌++◌, ℕ, ◌+◌, ◌-◌, ◌*◌, ◌/◌, ◌%◌, ◌≤◌, ◌<◌, lt-ltb, le-ltb, add-one, arith, length, get_or, take, set, replicate, length-set, take-suc-set, take_all, get_or-take, bit_xor}
+use Rattle.std.proofs.Common.{◌≡◌, sym, ap, ap₂, ◌∙◌, List, [], ◌∷◌, ◌++◌, ℕ, ◌+◌, ◌-◌, ◌*◌, ◌/◌, ◌%◌, ◌≤◌, ◌<◌, lt-ltb, le-ltb, add-one, arith, length, get_or, take, set, length-set, take-suc-set, take_all, get_or-take, bit_xor, ext_get_or, slice_index_or, drop, length-append, length-drop, take_at, w32}
+use Rattle.std.specs.Int.{to_le_bytes}
 use Rattle.std.specs.Int.Bits.{xor_zero_r}
 use Rattle.crc.specs.Crc.{bit_steps, byte_step, bytes_from}
 use Rattle.crc.specs.Octets.{octets}
 use Rattle.crc.proofs.CrcLaws.{bit_steps-split, octets_add}
 use Rattle.crc_nibbles.specs.Rows.{four_halves}
 use Rattle.crc_byte_tables.specs.Tables.{byte_rows, by_bytes, four_by, eight_by}
-use Rattle.crc_byte_tables.proofs.TablesLaws.{four_few, byte_entry}
+use Rattle.crc_byte_tables.proofs.TablesLaws.{four_few, length-byte_rows, byte_entry}
 
 module _ (t : List ℕ) (x : ℕ) where
-  pub bytes_are : (r : ℕ) {a b c d : ℕ} → a ≡ get_or t (r * 256 + 768 + x % 256) 0 → b ≡ get_or t (r * 256 + 512 + x / 256 % 256) 0
-      → c ≡ get_or t (r * 256 + 256 + x / 65536 % 256) 0
-      → d ≡ get_or t (r * 256 + x / 16777216 % 256) 0
+  pub bytes_are : (r : ℕ) {v : List ℕ} {a b c d : ℕ} → v ≡ to_le_bytes w32 x → a ≡ get_or t (r * 256 + 768 + get_or v 0 0) 0
+      → b ≡ get_or t (r * 256 + 512 + get_or v 1 0) 0 → c ≡ get_or t (r * 256 + 256 + get_or v 2 0) 0 → d ≡ get_or t (r * 256 + get_or v 3 0) 0
       → bit_xor (bit_xor a b) (bit_xor c d) ≡ by_bytes t r x
   unfolding by_bytes
-  bytes_are r e f g h = ap₂ bit_xor (ap₂ bit_xor e f) (ap₂ bit_xor g h)
+  bytes_are r {v} q e f g h =
+      ap₂ bit_xor (ap₂ bit_xor (at 768 0 e) (at 512 1 f)) (ap₂ bit_xor (at 256 2 g) (h ∙ ap (λ (w : List ℕ). get_or t (r * 256 + get_or w 3 0) 0) q))
+    where
+      at : (m k : ℕ) {y : ℕ} → y ≡ get_or t (r * 256 + m + get_or v k 0) 0 → y ≡ get_or t (r * 256 + m + get_or (to_le_bytes w32 x) k 0) 0
+      at m k e = e ∙ ap (λ (w : List ℕ). get_or t (r * 256 + m + get_or w k 0) 0) q
 
   -- what a lent table is taken for
   module _ {r : ℕ} where
@@ -50,26 +54,31 @@ making_next {n} {w} {i} {x} g h m q =
       sofar = rw add-one (take-suc-set w i x (omega (arith, g.size)) ∙ ap₂ (λ (a : List ℕ) (y : ℕ). a ++ (y ∷ [])) g.sofar q);
     }
 
-pub first_start : Making 256 (replicate 2048 0) 0
-unfolding byte_rows
-first_start = record { few = omega arith; size = refl; sofar = refl }
-
 -- a byte's own steps
 own_steps : (b : ℕ) → bytes_from b (0 ∷ []) ≡ octets 1 b
 unfolding bytes_from byte_step octets
 own_steps b = ap (bit_steps 8) (xor_zero_r b)
 
-pub first_turn : {w : List ℕ} {i : ℕ} (s : List ℕ) {x : ℕ} → Making 256 w i → i < 256 → s ≡ 0 ∷ [] → x ≡ bytes_from i s → Making 256 (set w i x) (i + 1)
-first_turn {w} {i} s {x} g h e f =
-    let u : 1 ≡ i / 256 + 1 = omega arith in
-    let v : i ≡ i % 256 = omega arith in
-    making_next g h (omega arith) (f ∙ ap (bytes_from i) e ∙ own_steps i ∙ ap₂ octets u v)
+-- the first row is those of each byte
+pub first_row : (w : List ℕ) → length w ≡ 256 → ((i : ℕ) → i < 256 → slice_index_or w i 0 ≡ bytes_from i (0 ∷ [])) → w ≡ byte_rows 256
+first_row w e f =
+    ext_get_or 0 w (byte_rows 256) (e ∙ sym (length-byte_rows 256)) same
+  where
+    same : (i : ℕ) → i < length w → get_or w i 0 ≡ get_or (byte_rows 256) i 0
+    same i h =
+        let k : i < 256 = omega (arith, e) in
+        let u : 1 ≡ i / 256 + 1 = omega arith in
+        let v : i ≡ i % 256 = omega arith in
+        f i k ∙ own_steps i ∙ ap₂ octets u v ∙ sym (byte_entry 256 i k)
 
-pub first_done : {w : List ℕ} {i : ℕ} → Making 256 w i → 256 ≤ i → take 256 w ≡ byte_rows 256
-first_done {w} {i} g h = let e : i ≡ 256 = omega (arith, g.few) in rw e at g.sofar
-
-pub more_start : (w : List ℕ) → length w ≡ 2048 → take 256 w ≡ byte_rows 256 → Making 2048 w 256
-more_start w h e = record { few = omega arith; size = h; sofar = e }
+pub more_start : (w : List ℕ) {y : List ℕ} → length w ≡ 2048 → y ≡ byte_rows 256 → Making 2048 (y ++ drop 256 w) 256
+more_start w {y} h e =
+    let z : length y ≡ 256 = ap length e ∙ length-byte_rows 256 in
+    record {
+      few = omega arith;
+      size = length-append y (drop 256 w) ∙ simp length-drop (omega (arith, h, z));
+      sofar = take_at y (drop 256 w) 256 z ∙ e;
+    }
 
 -- a list that begins as the rows do
 front : (w : List ℕ) (i k : ℕ) → take i w ≡ byte_rows i → k < i → get_or w k 0 ≡ octets (k / 256 + 1) (k % 256)

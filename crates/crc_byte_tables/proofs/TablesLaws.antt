@@ -11,7 +11,7 @@ use Rattle.crc_nibbles.specs.Rows.{Rows, four_halves}
 use Rattle.crc_nibbles.specs.RowsLaws.{four_bytes, four_halves_lem}
 use Rattle.crc_byte_tables.specs.Tables.{byte_rows, by_bytes, four_by, eight_by, Steps}
 
-length-byte_rows : (n : ℕ) → length (byte_rows n) ≡ n
+pub length-byte_rows : (n : ℕ) → length (byte_rows n) ≡ n
 unfolding byte_rows
 length-byte_rows zero = refl
 length-byte_rows (suc n) = length-append (byte_rows n) (_ ∷ []) ∙ omega (arith, length-byte_rows n)

@@ -1,15 +1,15 @@
 // Steps of four and of eight bytes by a table that the caller lends: for one who takes few steps at a time, many times.
 #![tactic(auto)]
 
-ghost use Rattle.std.specs.Prelude.{◌≡◌, ◌+◌, ◌*◌, ◌≤◌, ◌%◌, [], ◌∷◌, length, get_or, take};
+ghost use Rattle.std.specs.Prelude.{◌≡◌, ◌+◌, ◌*◌, ◌≤◌, ◌%◌, length, get_or};
 ghost use Rattle.crc_byte_tables.specs.Tables.{byte_rows, by_bytes, four_by, eight_by};
 
 // An entry of the row of bytes that starts at `i`.
-fn entry(t: &[u32], i: usize, x: u32) -> u32
+fn entry(t: &[u32], i: usize, b: u8) -> u32
     requires { i + 256 ≤ length t.now }
-    ensures { result ≡ get_or t.now (i + x % 256) 0 }
+    ensures { result ≡ get_or t.now (i + b) 0 }
 {
-    t[i + ((x % 256) as usize)]
+    t[i + b as usize]
 }
 
 // By rows of bytes, from row `r` on: the steps of `r` bytes and four.
@@ -18,9 +18,10 @@ fn wide(t: &[u32], r: usize, x: u32) -> u32
     ensures { result ≡ by_bytes t.now r x }
 {
     let i = r * 256;
-    let a = entry(t, i + 768, x) ^ entry(t, i + 512, x / 256);
-    let b = entry(t, i + 256, x / 65536) ^ entry(t, i, x / 16777216);
-    a ^ b
+    let [a, b, c, d] = x.to_le_bytes();
+    let low = entry(t, i + 768, a) ^ entry(t, i + 512, b);
+    let high = entry(t, i + 256, c) ^ entry(t, i, d);
+    low ^ high
 }
 
 // The steps of four bytes, by `crc_folds::tables::EIGHT_ROWS` or `byte_rows()`.
@@ -44,23 +45,20 @@ pub fn eight_by(t: &[u32], x: u32) -> u32
 }
 
 // A byte, carried over one that is nought, takes its own steps alone.
-fn first_row(nought: &[u8]) -> [u32; 2048]
-    requires { nought.now ≡ 0 ∷ [] }
-    ensures { take 256 result ≡ byte_rows 256 }
+fn first_row() -> [u32; 256]
+    ensures { result ≡ byte_rows 256 }
 {
-    let mut w = [0; 2048];
-    for i in 0..256 {
-        w[i] = crc32::update(i as u32, nought);
-    }
-    w
+    std::array::from_fn(|b| crc32::update(b as u32, &[0]))
 }
 
-// Each row by the one before it, which goes through the steps of a byte.
-fn more_rows(w: [u32; 2048]) -> [u32; 2048]
-    requires { take 256 w ≡ byte_rows 256 }
+// Each row by the one before it, which goes through the steps of a byte. An index, since a turn reads two entries of the list that it
+// writes, and one of them is wherever the other says.
+fn more_rows(row: [u32; 256]) -> [u32; 2048]
+    requires { row ≡ byte_rows 256 }
     ensures { result ≡ byte_rows 2048 }
 {
-    let mut w = w;
+    let mut w = [0; 2048];
+    w[..256].copy_from_slice(&row);
     for i in 256..2048 {
         let x = w[i - 256];
         let y = w[(x % 256) as usize] ^ (x / 256);
@@ -73,6 +71,5 @@ fn more_rows(w: [u32; 2048]) -> [u32; 2048]
 pub fn byte_rows() -> [u32; 2048]
     ensures { result ≡ byte_rows 2048 }
 {
-    let nought = [0u8];
-    more_rows(first_row(&nought))
+    more_rows(first_row())
 }

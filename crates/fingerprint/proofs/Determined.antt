@@ -1,6 +1,5 @@
 -- The contract of the public call determines what it answers.
-use Prim.Native.Nat.{ℕ}
-use mathlib.Core.List.{List}
+use Rattle.std.proofs.Common.{ℕ, List}
 use Rattle.base.specs.DeterminedLaws.{by}
 use Rattle.base.specs.Determined.{Determines}
 use Rattle.fingerprint.specs.Fingerprint.{printed}

@@ -1,6 +1,5 @@
 -- A FINGERPRINT at the end leaves no room for a short change: the core of demand 3, of any two lists of bytes that end in a right one.
-use Rattle.std.specs.Prelude.{ℕ, ◌+◌, ◌-◌, ◌*◌, ◌/◌, ◌%◌, ◌≤◌, ◌<◌, ◌⊎◌, ◌≡◌, get_or, take, drop}
-use mathlib.Core.List.{List, [], ◌∷◌, ◌++◌}
+use Rattle.std.specs.Prelude.{List, [], ◌∷◌, ◌++◌, ℕ, ◌+◌, ◌-◌, ◌*◌, ◌/◌, ◌%◌, ◌≤◌, ◌<◌, ◌⊎◌, ◌≡◌, get_or, take, drop}
 use Rattle.std.proofs.Common.{inl, inr, sym, ◌∙◌, arith, length-drop, take-append-drop, ext_get_or, get_or-take, get_or-drop}
 use Rattle.std.proofs.Math.Path.{ap, ap₂}
 use Rattle.std.proofs.Math.Decide.{dec_le, dec_lt}

@@ -1,12 +1,7 @@
 -- The sum in three parts, and the places where there is none.
-use Prim.Native.Nat.{ℕ, ◌+◌, ◌-◌, ◌/◌, ◌%◌, ◌≤◌, ◌<◌}
-use mathlib.Core.List.{List, [], ◌∷◌, ◌++◌}
-use mathlib.Core.Path.{◌≡◌, sym, ap, ◌∙◌}
-use native.Mathlib.Omega.{arith}
-use borrow.Author.Tests.{lt-ltb, le-ltb}
-use lib.ListN.{length, get_or, take, drop}
-use lib.Seq.{take-add}
-use lib.Bits.{bit_xor}
+use Rattle.std.proofs.Common.{ℕ, ◌+◌, ◌-◌, ◌/◌, ◌%◌, ◌≤◌, ◌<◌, List, [], ◌∷◌, ◌++◌, ◌≡◌, sym, ap, ◌∙◌, arith, lt-ltb, le-ltb, length, get_or, take, drop, take-add, w16}
+use Rattle.std.specs.Int.{to_be_bytes}
+use Rattle.std.specs.Int.Bits.{bit_xor}
 use Rattle.big_endian.specs.Numbers.{be16, two, with_length}
 use Rattle.big_endian.specs.NumbersLaws.{four_at}
 use Rattle.crc.specs.Crc.{bytes_from, finished, crc32_of}
@@ -15,12 +10,18 @@ use Rattle.fingerprint.specs.Fingerprint.{fingerprint_at, printed}
 use Rattle.fingerprint.specs.FingerprintLaws.{owes_sum}
 use Rattle.fingerprint.specs.RegisterLaws.{parts}
 
-pub summed : (d : List ℕ) (p : ℕ) {a b c r : ℕ} → 20 ≤ p → p ≤ length d → a ≡ bytes_from 0xFFFF_FFFF (take 2 d)
-    → b ≡ bytes_from a (two (p - 20 + 8)) → c ≡ bytes_from b (take (p - 4) (drop 4 d)) → r ≡ finished c → bit_xor r 0x5354554E ≡ fingerprint_at d p
+-- a length as its two bytes
+two_bytes : (n : ℕ) → n < 65536 → to_be_bytes w16 n ≡ two n
+two_bytes n h = let e : n / 256 % 256 ≡ n / 256 = omega arith in rw e
+
+pub summed : (d : List ℕ) (p : ℕ) {a b c r : ℕ} {w : List ℕ} → 20 ≤ p → p ≤ length d → p - 20 + 8 ≤ 65535
+    → w ≡ to_be_bytes w16 (p - 20 + 8) → a ≡ bytes_from 0xFFFF_FFFF (take 2 d)
+    → b ≡ bytes_from a w → c ≡ bytes_from b (take (p - 4) (drop 4 d)) → r ≡ finished c → bit_xor r 0x5354554E ≡ fingerprint_at d p
 unfolding fingerprint_at crc32_of
-summed d p {a} {b} {c} {r} h l e f g i =
+summed d p {a} {b} {c} {r} {w} h l k o e t g i =
     let n : ℕ = p - 20 + 8 in
     let s : List ℕ = take (p - 4) (drop 4 d) in
+    let f : b ≡ bytes_from a (two n) = t ∙ ap (bytes_from a) (o ∙ two_bytes n (omega arith)) in
     let q : bytes_from 0xFFFF_FFFF (take 2 d ++ two n ++ s) ≡ c =
     bytes_from-append 0xFFFF_FFFF (take 2 d ++ two n) s
     ∙ ap (λ (x : ℕ). bytes_from x s) (bytes_from-append 0xFFFF_FFFF (take 2 d) (two n) ∙ ap (λ (x : ℕ). bytes_from x (two n)) (sym e) ∙ sym f)

@@ -1,9 +1,7 @@
 -- The register is carried from place to place, and another length is put in by one product.
-use Prim.Native.Nat.{ℕ, ◌+◌, ◌-◌, ◌*◌, ◌/◌, ◌%◌, ◌^◌, ◌≤◌, ◌<◌}
-use mathlib.Core.List.{List, ◌++◌, append_assoc}
-use Rattle.std.specs.Prelude.{◌≡◌, refl, length, drop}
+use Rattle.std.specs.Prelude.{ℕ, ◌+◌, ◌-◌, ◌*◌, ◌/◌, ◌%◌, ◌^◌, ◌≤◌, ◌<◌, List, ◌++◌, ◌≡◌, refl, length, drop}
 use Rattle.std.proofs.Math.Path.{sym, ap, ap₂}
-use Rattle.std.proofs.Common.{◌∙◌, arith, length-take, length-drop, take-take, take-add, drop-drop}
+use Rattle.std.proofs.Common.{◌∙◌, append_assoc, arith, length-take, length-drop, take-take, take-add, drop-drop}
 use Rattle.std.proofs.Math.ListN.{take}
 use Rattle.std.specs.Int.Bits.{bit_xor, xor_zero_l}
 use Rattle.std.proofs.lemmas.Nat.{xor_lt}

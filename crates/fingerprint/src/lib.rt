@@ -18,7 +18,7 @@ fn print_at(d: &[u8], p: usize) -> u32
     if u16_at(d, 2) as usize == n {
         return crc32::crc32(&d[0..p]) ^ 0x5354554E;
     }
-    let long = [(n / 256) as u8, (n % 256) as u8];
+    let long = (n as u16).to_be_bytes();
     let a = crc32::update(crc32::START, &d[0..2]);
     let b = crc32::update(a, &long);
     let c = crc32::update(b, &d[4..p]);
@@ -29,13 +29,7 @@ fn print_at(d: &[u8], p: usize) -> u32
 pub fn fingerprint_at(d: &[u8], p: usize) -> u32
     ensures { result ≡ printed d.now p }
 {
-    if p < 20 {
-        return 0;
-    }
-    if d.len() < p {
-        return 0;
-    }
-    if 65535 < p - 20 + 8 {
+    if p < 20 || d.len() < p || 65535 < p - 20 + 8 {
         return 0;
     }
     print_at(d, p)

@@ -25,7 +25,7 @@ fn key_block(k: &[u8]) -> [u8; 64]
     }
 }
 
-// Each byte of k xored with x.
+// Each byte of k xored with x. `map` was tried: its contract has a closure for each call, and that all hold the same x is left to show.
 fn xored(k: [u8; 64], x: u8) -> [u8; 64]
     ensures { result ≡ spec.xored k x }
 {

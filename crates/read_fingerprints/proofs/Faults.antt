@@ -1,11 +1,6 @@
 -- What `print_fault` returns, case by case.
-use Prim.Native.Nat.{ℕ, ◌+◌, ◌≤◌, ◌<◌}
-use mathlib.Core.List.{List}
-use mathlib.Core.Bool.{Bool, true, false}
-use mathlib.Core.Path.{◌≡◌, refl, sym, ap, ap₂, ◌∙◌}
-use native.Mathlib.Omega.{arith}
-use borrow.Author.Tests.{eq-eqb, ne_eqb}
-use lib.ListN.{length, get_or, take, drop, length-take, length-drop}
+use Rattle.std.proofs.Common.{ℕ, ◌+◌, ◌≤◌, ◌<◌, List, Bool, true, false, ◌≡◌, refl, sym, ap, ap₂, ◌∙◌, arith, eqb, eq-eqb, ne_eqb, eqb-true, length, get_or, take, drop, length-take, length-drop}
+use Rattle.std.proofs.lemmas.Bool.{eqb-false}
 use Rattle.base.specs.Choice.{pick}
 use Rattle.base.specs.SameLaws.{same_eq, same_refl}
 use Rattle.base.specs.Same.{same}
@@ -41,12 +36,13 @@ module _ (d : List ℕ) (p k : ℕ) where
 
 -- the four bytes at a place, and a number
 module _ (d : List ℕ) where
-  pub is_there_lem : ((i : ℕ) → get_or d i 0 < 256) → (at : ℕ) {u x : ℕ} → at + 4 ≤ length d → u ≡ be32 d at → u ≡ x
-      → true ≡ same (take 4 (drop at d)) (four x)
-  is_there_lem bs at {u} {x} l f q = sym (rw (be32_bytes d at l bs ∙ ap four (sym f ∙ q)) (same_refl (four x)))
-
-  pub not_there : (at : ℕ) {u x : ℕ} → at + 4 ≤ length d → u ≡ be32 d at → (u ≡ x → ⊥) → false ≡ same (take 4 (drop at d)) (four x)
-  not_there at {u} {x} l f q = sym (differs (take 4 (drop at d)) (four x) (λ w. q (f ∙ bytes_be32 d at l x w)))
+  pub is_there_lem : ((i : ℕ) → get_or d i 0 < 256) → (at : ℕ) {u : ℕ} (x : ℕ) → at + 4 ≤ length d → u ≡ be32 d at
+      → eqb u x ≡ same (take 4 (drop at d)) (four x)
+  is_there_lem bs at {u} x l f = go (eqb u x) refl
+    where
+      go : (b : Bool) → eqb u x ≡ b → b ≡ same (take 4 (drop at d)) (four x)
+      go true q = sym (rw (be32_bytes d at l bs ∙ ap four (sym f ∙ eqb-true u x q)) (same_refl (four x)))
+      go false q = sym (differs (take 4 (drop at d)) (four x) (λ w. eqb-false u x q (f ∙ bytes_be32 d at l x w)))
 
 module _ (d : List ℕ) (p k n : ℕ) (e : k ≡ 0x8028) (o : n ≡ 4) {b : Bool} {x : ℕ}
     (f : b ≡ same (take 4 (drop (p + 4) d)) (four x)) (g : x ≡ printed d p) where

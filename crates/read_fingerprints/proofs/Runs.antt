@@ -1,12 +1,7 @@
 -- The register carried from FINGERPRINT to FINGERPRINT: what the functions of the run return.
-use Rattle.std.specs.Int.{from_le_bytes}
-use Rattle.std.proofs.Common.{w32, []}
-use Prim.Native.Nat.{ℕ, ◌+◌, ◌-◌, ◌*◌, ◌^◌, ◌≤◌, ◌<◌}
-use mathlib.Core.List.{List, [], ◌∷◌, ◌++◌, append-nil}
-use mathlib.Core.Path.{◌≡◌, refl, sym, ap, ap₂, ◌∙◌, subst}
-use native.Mathlib.Omega.{arith}
-use lib.ListN.{length, get_or, take, drop, length-take, length-drop}
-use lib.Bits.{bit_xor, xor_lt}
+use Rattle.std.specs.Int.{from_le_bytes, swap_bytes}
+use Rattle.std.proofs.Common.{ℕ, ◌+◌, ◌-◌, ◌*◌, ◌^◌, ◌≤◌, ◌<◌, List, [], ◌∷◌, ◌++◌, append-nil, ◌≡◌, refl, sym, ap, ap₂, ◌∙◌, subst, arith, length, get_or, take, drop, length-take, length-drop, bit_xor, ◌/◌, ◌%◌, w16, w32}
+use Rattle.std.proofs.lemmas.Nat.{xor_lt}
 use Rattle.big_endian.specs.Numbers.{with_length}
 use Rattle.big_endian.specs.NumbersLaws.{four_at}
 use Rattle.crc.specs.Crc.{bit_step, bit_steps, bytes_from, finished}
@@ -51,10 +46,6 @@ module _ (d : List ℕ) where
   pub begun_far : {r : Running} → r ≡ running_at d 4 0 → 4 ≤ r.upto
   unfolding running_at
   begun_far e = omega (arith, ap (λ (x : Running). x.upto) e)
-
-  pub begun_short : {r : Running} → r ≡ running_at d 4 0 → r.length < 65536
-  unfolding running_at
-  begun_short e = omega (arith, ap (λ (x : Running). x.length) e)
 
   pub carried_is : (r : Running) {p x y : ℕ} → Ran d r p → 4 ≤ r.upto → p ≤ length d
       → x ≡ bytes_from r.sum (take (p - r.upto) (drop r.upto d))
@@ -201,6 +192,13 @@ module _ (d : List ℕ) where
       in
       let a : r.upto + 4 + 4 ≡ p = omega arith in
       (worded_done (rw a at two)).0
+
+-- a length with its bytes the other way round
+pub field_is : (n : ℕ) {x : ℕ} → n < 65536 → x ≡ swap_bytes w16 n → x * 2 ^ 16 % 2 ^ 32 ≡ field n
+unfolding field
+field_is n {x} h e =
+    let k : x ≡ n % 256 * 256 + n / 256 = e ∙ omega arith in
+    omega arith
 
 pub relength_is : (r : Running) (n : ℕ) {a b x : ℕ} → a ≡ field n → b ≡ field r.length → x ≡ times 32 (bit_xor a b) r.power
     → record { upto = r.upto; length = n; sum = bit_xor r.sum x; power = r.power } ≡ relength_of r n

@@ -1,7 +1,7 @@
 -- The FINGERPRINTs from a place on: where judging starts, and what it comes to.
 use Rattle.std.specs.Prelude.{ℕ, ◌≤◌, ◌<◌, List, ◌≡◌, length}
-use Rattle.std.proofs.Common.{sym, ◌∙◌}
-use borrow.Author.Tests.{le-leb, lt-leb}
+use Rattle.std.proofs.Common.{sym, ◌∙◌, le-leb}
+use Rattle.std.proofs.lemmas.Bool.{lt-leb}
 use Rattle.attribute.specs.Scan.{Scan, scanned}
 use Rattle.attribute.specs.Scanning.{Scanning}
 use Rattle.read_fingerprints.specs.Fingerprints.{print_faults, on_from, prints_from}

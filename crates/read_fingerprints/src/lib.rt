@@ -7,7 +7,6 @@ ghost use Rattle.big_endian.specs.Numbers.{four};
 ghost use Rattle.attribute.specs.Scan.{scan_said};
 ghost use Rattle.attribute.specs.Scanning.{Scanning};
 ghost use Rattle.crc.specs.Octets.{word};
-ghost use Rattle.crc_byte_tables.specs.Tables.{Steps};
 ghost use Rattle.fingerprint.specs.Fingerprint.{printed};
 ghost use Rattle.fingerprint.specs.Register.{field};
 ghost use Rattle.read_fingerprints.specs.Running.{running_at, relength_of, Ran, Judged};
@@ -16,10 +15,14 @@ ghost use Rattle.read_fingerprints.specs.Fingerprints.{print_fault, print_faults
 use attribute::{Fault, Walk, step};
 use big_endian::u32_at;
 use fingerprint::{FINGERPRINT, fingerprint_at};
+use table::Table;
 use wire::refusal::Refusal;
 
+mod table;
+
 // The register over the first `upto` bytes, with `length` in the length field, and what so many bytes that are nought make of
-// 0x8000_0000: so each FINGERPRINT goes on where the one before it stopped.
+// 0x8000_0000: so each FINGERPRINT goes on where the one before it stopped. That it is right (`Ran`) is said of a datagram and a place, so
+// it stands in the contracts: to be a field it would take the datagram into the struct, and into `running_at`, which has only its bytes.
 #[derive(Clone, Copy)]
 struct Running {
     upto: usize,
@@ -83,17 +86,18 @@ fn low_word(d: &[u8], at: usize) -> u32
 }
 
 // Carried by a lent table, four bytes a turn: for the few bytes between two FINGERPRINTs.
-fn words(t: &[u32], d: &[u8], run: Running, p: usize) -> Running
-    requires { Steps t.now × (128 ≤ length t.now) × Ran d.now run p × (4 ≤ run.upto) × (p ≤ length d.now) }
+fn words(t: Table, d: &[u8], run: Running, p: usize) -> Running
+    requires { (128 ≤ length t.rows.now) × Ran d.now run p × (4 ≤ run.upto) × (p ≤ length d.now) }
     ensures { Ran d.now result p × (4 ≤ result.upto) }
 {
     let length = run.length;
     let mut at = run.upto;
     let mut sum = run.sum;
     let mut power = run.power;
+    // An index, since the place behind the last whole word is answered too: chunks would have it counted beside them.
     while 4 <= p - at {
-        sum = crc_byte_tables::four_by(t, sum ^ low_word(d, at));
-        power = crc_byte_tables::four_by(t, power);
+        sum = crc_byte_tables::four_by(t.rows, sum ^ low_word(d, at));
+        power = crc_byte_tables::four_by(t.rows, power);
         at += 4;
     }
     Running {
@@ -105,37 +109,37 @@ fn words(t: &[u32], d: &[u8], run: Running, p: usize) -> Running
 }
 
 // Eight bytes by half bytes.
-fn two_words(t: &[u32], d: &[u8], run: Running, p: usize) -> Running
-    requires { Steps t.now × (128 ≤ length t.now) × Ran d.now run p × (4 ≤ run.upto) × (run.upto + 8 ≡ p) × (p ≤ length d.now) }
+fn two_words(t: Table, d: &[u8], run: Running, p: usize) -> Running
+    requires { (128 ≤ length t.rows.now) × Ran d.now run p × (4 ≤ run.upto) × (run.upto + 8 ≡ p) × (p ≤ length d.now) }
     ensures { Ran d.now result p × (p ≤ result.upto) }
 {
     let at = run.upto;
-    let half = crc_byte_tables::four_by(t, run.sum ^ low_word(d, at));
-    let sum = crc_byte_tables::four_by(t, half ^ low_word(d, at + 4));
+    let half = crc_byte_tables::four_by(t.rows, run.sum ^ low_word(d, at));
+    let sum = crc_byte_tables::four_by(t.rows, half ^ low_word(d, at + 4));
     Running {
         upto: p,
         length: run.length,
         sum,
-        power: crc_byte_tables::four_by(t, crc_byte_tables::four_by(t, run.power)),
+        power: crc_byte_tables::four_by(t.rows, crc_byte_tables::four_by(t.rows, run.power)),
     }
 }
 
 // From a FINGERPRINT to one right behind it, with no loop.
-fn adjacent(t: &[u32], d: &[u8], run: Running, p: usize) -> Running
-    requires { Steps t.now × (128 ≤ length t.now) × Ran d.now run p × (4 ≤ run.upto) × (run.upto + 8 ≡ p) × (p ≤ length d.now) }
+fn adjacent(t: Table, d: &[u8], run: Running, p: usize) -> Running
+    requires { (128 ≤ length t.rows.now) × Ran d.now run p × (4 ≤ run.upto) × (run.upto + 8 ≡ p) × (p ≤ length d.now) }
     ensures { Ran d.now result p × (p ≤ result.upto) }
 {
-    if t.len() < 2048 {
+    if t.rows.len() < 2048 {
         return two_words(t, d, run, p);
     }
     let at = run.upto;
-    let first = crc_byte_tables::eight_by(t, run.sum ^ low_word(d, at));
-    let second = crc_byte_tables::four_by(t, low_word(d, at + 4));
+    let first = crc_byte_tables::eight_by(t.rows, run.sum ^ low_word(d, at));
+    let second = crc_byte_tables::four_by(t.rows, low_word(d, at + 4));
     Running {
         upto: p,
         length: run.length,
         sum: first ^ second,
-        power: crc_byte_tables::eight_by(t, run.power),
+        power: crc_byte_tables::eight_by(t.rows, run.power),
     }
 }
 
@@ -143,8 +147,7 @@ fn adjacent(t: &[u32], d: &[u8], run: Running, p: usize) -> Running
 fn field_of(n: u16) -> u32
     ensures { result ≡ field n }
 {
-    let n = n as u32;
-    (n % 256 * 256 + n / 256) * 65536
+    u32::from(n.swap_bytes()) << 16
 }
 
 // Another number in the length field.
@@ -161,8 +164,8 @@ fn relength(run: Running, n: u16) -> Running
 }
 
 // Whole words by the table, and what is left over.
-fn between(t: &[u32], d: &[u8], run: Running, p: usize) -> Running
-    requires { Steps t.now × (128 ≤ length t.now) × Ran d.now run p × (4 ≤ run.upto) × (p ≤ length d.now) }
+fn between(t: Table, d: &[u8], run: Running, p: usize) -> Running
+    requires { (128 ≤ length t.rows.now) × Ran d.now run p × (4 ≤ run.upto) × (p ≤ length d.now) }
     ensures { Ran d.now result p × (p ≤ result.upto) }
 {
     let near = words(t, d, run, p);
@@ -173,17 +176,14 @@ fn between(t: &[u32], d: &[u8], run: Running, p: usize) -> Running
 }
 
 // The register as far as p: few bytes by the table, many by themselves.
-fn register_at(t: &[u32], d: &[u8], run: Running, p: usize) -> Running
-    requires { Steps t.now × Ran d.now run p × (20 ≤ p) × (p ≤ length d.now) }
+fn register_at(t: Table, d: &[u8], run: Running, p: usize) -> Running
+    requires { Ran d.now run p × (20 ≤ p) × (p ≤ length d.now) }
     ensures { Ran d.now result p × (p ≤ result.upto) }
 {
     if run.upto < 4 {
         return carried(d, begun(d), p);
     }
-    if 64 < p - run.upto {
-        return carried(d, run, p);
-    }
-    if t.len() < 128 {
+    if 64 < p - run.upto || t.rows.len() < 128 {
         return carried(d, run, p);
     }
     if p - run.upto == 8 {
@@ -193,8 +193,8 @@ fn register_at(t: &[u32], d: &[u8], run: Running, p: usize) -> Running
 }
 
 // The register at p, with the length of a FINGERPRINT there.
-fn register_for(t: &[u32], d: &[u8], run: Running, p: usize) -> Running
-    requires { Steps t.now × Ran d.now run p × (20 ≤ p) × (p ≤ length d.now) × (p - 20 + 8 ≤ 65535) }
+fn register_for(t: Table, d: &[u8], run: Running, p: usize) -> Running
+    requires { Ran d.now run p × (20 ≤ p) × (p ≤ length d.now) × (p - 20 + 8 ≤ 65535) }
     ensures { result ≡ running_at d.now p (p - 20 + 8) }
 {
     relength(register_at(t, d, run, p), (p - 20 + 8) as u16)
@@ -202,8 +202,8 @@ fn register_for(t: &[u32], d: &[u8], run: Running, p: usize) -> Running
 
 // A FINGERPRINT that ends the datagram is summed in one piece: the usual one is the only one. One farther back than a datagram goes
 // owes what `fingerprint_at` says of such a place.
-fn sum_at(t: &[u32], d: &[u8], run: Running, p: usize) -> Summed
-    requires { Steps t.now × Ran d.now run p × (20 ≤ p) × (p ≤ length d.now) }
+fn sum_at(t: Table, d: &[u8], run: Running, p: usize) -> Summed
+    requires { Ran d.now run p × (20 ≤ p) × (p ≤ length d.now) }
     ensures value { result.value ≡ printed d.now p }
     ensures run { Ran d.now result.run p }
 {
@@ -225,22 +225,19 @@ fn is_there(d: &[u8], at: usize, x: u32) -> bool
     requires { at + 4 ≤ length d.now }
     ensures { result ≡ same (take 4 (drop at d.now)) (four x) }
 {
-    if u32_at(d, at) == x {
-        return true;
-    }
-    false
+    u32_at(d, at) == x
 }
 
 // Judges the attribute at p as a FINGERPRINT: how far the register has gone, or 15. One that is none passes.
 fn print_fault(
-    t: &[u32],
+    t: Table,
     d: &[u8],
     run: Running,
     p: usize,
     kind: u16,
     size: usize,
 ) -> Result<Running, Refusal>
-    requires { Steps t.now × Ran d.now run p × (20 ≤ p) × (p + 4 + size ≤ length d.now) }
+    requires { Ran d.now run p × (20 ≤ p) × (p + 4 + size ≤ length d.now) }
     ensures { Judged d.now p (print_fault d.now p kind (take size (drop (p + 4) d.now))) result }
 {
     if kind != FINGERPRINT {
@@ -257,8 +254,8 @@ fn print_fault(
 }
 
 // Each FINGERPRINT from a place on.
-fn judge_each(t: &[u32], d: &[u8], from: usize, before: usize) -> Result<usize, Fault>
-    requires { Steps t.now × (20 ≤ from) × (from ≤ length d.now) × (before ≤ from) }
+fn judge_each(t: Table, d: &[u8], from: usize, before: usize) -> Result<usize, Fault>
+    requires { (20 ≤ from) × (from ≤ length d.now) × (before ≤ from) }
     ensures { result ≡ on_from d.now from before }
 {
     let mut at = from;
@@ -299,7 +296,7 @@ fn judge_few(d: &[u8], from: usize, before: usize) -> Result<usize, Fault>
     ensures { result ≡ on_from d.now from before }
 {
     let t = crc_folds::tables::EIGHT_ROWS;
-    judge_each(&t, d, from, before)
+    judge_each(Table { rows: &t }, d, from, before)
 }
 
 // Making a table pays where more than one FINGERPRINT may follow, and making a large one where very many may.
@@ -309,13 +306,13 @@ fn judge_from(d: &[u8], from: usize, before: usize) -> Result<usize, Fault>
 {
     let left = d.len() - from;
     if left <= 8 {
-        return judge_each(&[], d, from, before);
+        return judge_each(Table { rows: &[] }, d, from, before);
     }
     if left <= 2048 {
         return judge_few(d, from, before);
     }
     let t = crc_byte_tables::byte_rows();
-    judge_each(&t, d, from, before)
+    judge_each(Table { rows: &t }, d, from, before)
 }
 
 // The place and the number themselves where they can be, else those of the first attribute.
@@ -323,15 +320,8 @@ fn starting(d: &[u8], from: usize, before: usize) -> Place
     requires { 20 ≤ length d.now }
     ensures { Scanning (print_faults d.now) d.now result.at result.count (prints_from d.now from before) }
 {
-    let first = Place { at: 20, count: 0 };
-    if from < 20 {
-        return first;
-    }
-    if d.len() < from {
-        return first;
-    }
-    if from < before {
-        return first;
+    if from < 20 || d.len() < from || from < before {
+        return Place { at: 20, count: 0 };
     }
     Place {
         at: from,

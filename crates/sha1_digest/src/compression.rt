@@ -40,7 +40,8 @@ fn own_words(block: &[u8; 64]) -> [u32; 80]
     w
 }
 
-// Sixteen words more. Sixteen turns are few enough that the compiler unrolls them and keeps words in registers.
+// Sixteen words more. Sixteen turns are few enough that the compiler unrolls them and keeps words in registers. By an index, since each
+// word is made of four before it in the list that it goes into.
 fn sixteen_more(w: &mut [u32; 80], from: usize)
     requires { (16 ≤ from) × (from + 16 ≤ 80) }
     ensures { w.new ≡ spec.extended w.old from 16 }
@@ -144,7 +145,7 @@ fn compress(h: State, block: &[u8; 64]) -> State
     sum(s80, h)
 }
 
-// The hash value h with all whole blocks of s taken in.
+// The hash value h with all whole blocks of s taken in. Over `as_chunks` it took 5 % more instructions (docs/DECISIONS.md).
 pub fn absorb(h: State, s: &[u8]) -> State
     ensures { result ≡ spec.run s.now h }
 {

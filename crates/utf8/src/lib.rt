@@ -51,6 +51,7 @@ fn stands<const N: usize>(s: &[u8], at: usize, row: &[(u8, u8); N]) -> bool
 }
 
 // How many bytes the character at `at` has, by the one row that its first byte may begin; 0 where none stands there.
+// A number here and in `width_at`, and no `Option`: the definition that they promise, the grammar's `width`, answers 0 there.
 fn width_by<const N: usize>(s: &[u8], at: usize, row: &[(u8, u8); N]) -> usize
     requires { at ≤ length s.now }
     ensures { result ≡ pick (begins (ranges row.now) (drop at s.now)) N 0 }

@@ -1,11 +1,6 @@
-use Rattle.crc_byte_tables.proofs.Making.{first_start, first_turn, first_done}
+use Rattle.std.proofs.Common.{rules}
+use Rattle.crc_byte_tables.proofs.Making.{first_row}
 use Rattle.crc_byte_tables.proofs.first_row.Goals as goal
 
-pub loop-i-init : goal.loop-i-init
-loop-i-init c = search (first_start)
-
-pub loop-i-preserved : goal.loop-i-preserved
-loop-i-preserved c = search (first_turn)
-
 pub returns : goal.returns
-returns c = search (first_done)
+returns c = first_row c.from_fn.result c.from_fn.ensures.items.long (λ i h. let call = c.from_fn.ensures.items.at i 0 h in search (rules, call.2.met))

@@ -1,4 +1,4 @@
-use native.Mathlib.Omega.{arith}
+use Rattle.std.proofs.Common.{arith}
 use Rattle.fingerprint.proofs.Sums.{summed, as_it_stands}
 use Rattle.fingerprint.proofs.print_at.Goals as goal
 

@@ -1,5 +1,5 @@
 use Rattle.read_fingerprints.proofs.Runs.{adjacent_is}
-use borrow.Author.Rules.{rules}
+use Rattle.std.proofs.Common.{rules}
 use Rattle.read_fingerprints.proofs.adjacent.Goals as goal
 
 pub returns : goal.returns

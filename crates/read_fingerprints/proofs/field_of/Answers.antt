@@ -1,7 +1,6 @@
-use Rattle.fingerprint.specs.Register.{field}
-use borrow.Author.Rules.{rules}
+use Rattle.std.proofs.Common.{rules}
+use Rattle.read_fingerprints.proofs.Runs.{field_is}
 use Rattle.read_fingerprints.proofs.field_of.Goals as goal
 
 pub returns : goal.returns
-unfolding field
-returns c = search rules
+returns c = search (rules, field_is)

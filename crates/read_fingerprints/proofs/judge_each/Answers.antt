@@ -1,10 +1,9 @@
-use mathlib.Core.Path.{refl}
 use Rattle.attribute.proofs.ScanLaws.{passed, cut, less}
 use Rattle.attribute.specs.SaidLaws.{walk_one}
 use Rattle.attribute.proofs.Stops.{stops}
 use Rattle.read_fingerprints.proofs.Runs.{unbegun}
 use Rattle.read_fingerprints.proofs.Scans.{start, print_room, print_on, print_decides, ran_on}
-use borrow.Author.Rules.{rules}
+use Rattle.std.proofs.Common.{refl, rules}
 use Rattle.read_fingerprints.proofs.judge_each.Goals as goal
 
 pub loop-kind-init : goal.loop-kind-init
@@ -17,7 +16,7 @@ pub returns-in_default : goal.returns-in_default
 returns-in_default c = search (cut, stops, c.in_default.not-Attribute, walk_one)
 
 pub print_fault-requires : goal.print_fault-requires
-print_fault-requires c = (search rules, search rules, search rules, search (print_room, walk_one))
+print_fault-requires c = (search rules, search rules, search (print_room, walk_one))
 
 pub returns-in-Err : goal.returns-in-Err
 returns-in-Err c = search (print_decides, walk_one)

@@ -1,5 +1,4 @@
-use Prim.Native.Nat.{◌-◌}
-use lib.ListN.{length}
+use Rattle.std.proofs.Common.{◌-◌, length}
 use Rattle.attribute.specs.Scanning.{Scanning}
 use Rattle.read_fingerprints.specs.Fingerprints.{print_faults, on_from}
 use Rattle.read_fingerprints.specs.Running.{Ran}

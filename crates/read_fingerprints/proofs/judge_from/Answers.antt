@@ -1,6 +1,6 @@
+use Rattle.std.proofs.Common.{rules}
 use Rattle.crc_byte_tables.proofs.TablesLaws.{byte_steps}
-use borrow.Author.Rules.{rules}
 use Rattle.read_fingerprints.proofs.judge_from.Goals as goal
 
-pub judge_each-requires-2 : goal.judge_each-requires-2
-judge_each-requires-2 c = (byte_steps _ (search rules), search rules, search rules, search rules)
+pub invariant_of-judge_each-2 : goal.invariant_of-judge_each-2
+invariant_of-judge_each-2 c = record { steps = byte_steps _ (search rules) }

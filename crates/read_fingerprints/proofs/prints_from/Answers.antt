@@ -1,4 +1,4 @@
-use mathlib.Core.Path.{ap}
+use Rattle.std.proofs.Common.{ap}
 use Rattle.attribute.specs.Scan.{scan_said}
 use Rattle.read_fingerprints.specs.FingerprintsLaws.{reaches}
 use Rattle.read_fingerprints.proofs.Scans.{none_is}

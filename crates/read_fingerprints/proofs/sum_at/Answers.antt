@@ -1,5 +1,5 @@
 use Rattle.read_fingerprints.proofs.Runs.{sum_is, sum_ran}
-use borrow.Author.Rules.{rules}
+use Rattle.std.proofs.Common.{rules}
 use Rattle.read_fingerprints.proofs.sum_at.Goals as goal
 
 pub returns : goal.returns

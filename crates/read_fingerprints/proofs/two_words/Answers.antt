@@ -1,5 +1,5 @@
 use Rattle.read_fingerprints.proofs.Runs.{two_words_are}
-use borrow.Author.Rules.{rules}
+use Rattle.std.proofs.Common.{rules}
 use Rattle.read_fingerprints.proofs.two_words.Goals as goal
 
 pub returns : goal.returns

@@ -1,5 +1,5 @@
 use Rattle.read_fingerprints.proofs.Runs.{worded_start, worded_turn, worded_done}
-use borrow.Author.Rules.{rules}
+use Rattle.std.proofs.Common.{rules}
 use Rattle.read_fingerprints.proofs.words.Goals as goal
 
 pub loop-at-init : goal.loop-at-init

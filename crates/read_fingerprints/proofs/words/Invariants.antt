@@ -1,4 +1,4 @@
-use Prim.Native.Nat.{◌-◌}
+use Rattle.std.proofs.Common.{◌-◌}
 use Rattle.read_fingerprints.proofs.Runs.{Worded}
 use Rattle.read_fingerprints.proofs.words.Given as goal
 
