@@ -10,7 +10,6 @@ use Rattle.wire.specs.declared.refusal.Refusal.{Refusal}
 use Rattle.wire.specs.declared.transaction_id.TransactionId.{TransactionId}
 use Rattle.net.specs.Net.{addr_xor}
 use Rattle.net.specs.declared.Family.{Family}
-use Rattle.net.specs.declared.Family.TheVariants.{Ipv4, Ipv6}
 use Rattle.net.specs.declared.SocketAddr.{SocketAddr}
 use Rattle.registry.specs.Rows.{rfc5389, look, rule_in}
 use Rattle.registry.specs.Fault.{entry_fault, fault}
