@@ -44,13 +44,6 @@ pub fn eight_by(t: &[u32], x: u32) -> u32
     wide(t, 4, x)
 }
 
-// A byte, carried over one that is nought, takes its own steps alone.
-fn first_row() -> [u32; 256]
-    ensures { result ≡ byte_rows 256 }
-{
-    std::array::from_fn(|b| crc32::update(b as u32, &[0]))
-}
-
 // Each row by the one before it, which goes through the steps of a byte. An index, since a turn reads two entries of the list that it
 // writes, and one of them is wherever the other says.
 fn more_rows(row: [u32; 256]) -> [u32; 2048]
@@ -71,5 +64,6 @@ fn more_rows(row: [u32; 256]) -> [u32; 2048]
 pub fn byte_rows() -> [u32; 2048]
     ensures { result ≡ byte_rows 2048 }
 {
-    more_rows(first_row())
+    // A byte, carried over one that is nought, takes its own steps alone.
+    more_rows(std::array::from_fn(|b| crc32::update(b as u32, &[0])))
 }
