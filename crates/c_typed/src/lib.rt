@@ -99,6 +99,7 @@ pub fn cratehoist_append_unknown_attributes(buffer: &mut [u8], types: &[u8]) -> 
     in_numbers(write_typed::append_unknown_attributes(buffer, types))
 }
 
+// A family is a number in C.
 pub fn cratehoist_append_address(buffer: &mut [u8], kind: u16, address: Address) -> Written
     ensures { (result ≡ told (answer buffer.old (refusal_of kind address) (attr_of buffer.old kind address)))
         × (buffer.new ≡ appended buffer.old (refusal_of kind address) (attr_of buffer.old kind address)) }

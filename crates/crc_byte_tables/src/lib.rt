@@ -24,7 +24,7 @@ fn wide(t: &[u32], r: usize, x: u32) -> u32
     low ^ high
 }
 
-// The steps of four bytes, by `crc_folds::tables::EIGHT_ROWS` or `byte_rows()`.
+// The steps of four bytes, by `crc_folds::tables::EIGHT_ROWS` or `byte_rows()`: told by the size, since the public clause answers for any slice.
 pub fn four_by(t: &[u32], x: u32) -> u32
     ensures { result ≡ four_by t.now x }
 {

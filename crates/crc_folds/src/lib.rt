@@ -42,7 +42,7 @@ fn alone(a: u64) -> Waiting
     }
 }
 
-// Eight bytes at a place, the first lowest.
+// Eight bytes at a place, the first lowest; one by one, since `first_chunk` would answer an `Option` that is never `None` here.
 fn word_at(s: &[u8], i: usize) -> u64
     requires { i + 8 ≤ length s.now }
     ensures { result ≡ word (take 8 (drop i s.now)) }
@@ -59,7 +59,7 @@ fn word_at(s: &[u8], i: usize) -> u64
     ])
 }
 
-// The first four bytes.
+// The first four bytes, by the same way.
 fn first_four(s: &[u8]) -> u32
     requires { 4 ≤ length s.now }
     ensures { result ≡ word (take 4 s.now) }
@@ -100,7 +100,7 @@ fn fold_near(f: Waiting, w: u64) -> Waiting
     }
 }
 
-// The next word goes through its steps.
+// The next word goes through its steps. The rule of the table is asked of each caller: only `by_words` has a table, and it is a constant.
 fn settle(t: &[u32], f: Waiting, w: u64) -> Waiting
     requires { Rows t.now × (128 ≤ length t.now) }
     ensures { register result ≡ octets 8 (bit_xor (register f) w) }
@@ -132,7 +132,8 @@ fn words(t: &[u32], c: u32, s: &[u8]) -> u32
     crc_nibbles::bytes(t, rest.a as u32, &s[n..])
 }
 
-// Takes a word a turn, as long as so many bytes are left: what waits then, and the next byte's place.
+// Takes a word a turn, as long as so many bytes are left: what waits then, and the next byte's place. The place is counted,
+// since the next loop goes on where this one ends.
 fn take_words<F: Fn(Waiting, u64) -> Waiting>(
     f: Waiting,
     s: &[u8],

@@ -14,7 +14,7 @@ fn look(t: &[u32], k: usize, x: u32) -> u32
     t[low] ^ t[high]
 }
 
-// The steps of four bytes, nought by fewer than eight rows. The look-ups do not wait for each other.
+// The steps of four bytes, nought by fewer than eight rows: the public clause answers for any slice, so nothing is asked of the caller. The look-ups do not wait for each other.
 pub fn four(t: &[u32], x: u32) -> u32
     ensures { result ≡ four_halves t.now x }
 {

@@ -25,7 +25,8 @@ fn print_at(d: &[u8], p: usize) -> u32
     crc32::finish(c) ^ 0x5354554E
 }
 
-// The value of a FINGERPRINT whose header starts at p; 0 where none can start.
+// The value of a FINGERPRINT whose header starts at p; 0 where none can start, as the public
+// clause has it (`printed`).
 pub fn fingerprint_at(d: &[u8], p: usize) -> u32
     ensures { result ≡ printed d.now p }
 {

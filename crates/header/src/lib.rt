@@ -19,7 +19,7 @@ pub struct Header {
     pub id: TransactionId,
 }
 
-// The twelve bytes at place 8 of a header.
+// The twelve bytes at place 8 of a header, which is there: the size is asked for, as below the reader too, where it was tested.
 fn id_of(d: &[u8]) -> TransactionId
     requires { 20 ≤ length d.now }
     ensures { result.bytes ≡ id_of d.now }

@@ -59,6 +59,7 @@ pub fn unhex(s: &[u8], out: &mut [u8]) -> Result<usize, HexFault>
 }
 
 // Puts two digits for each byte, in lower case, at the front of out, as far as there is room for both; answers how many bytes were shown.
+// Two places for each byte: what a chain over `iter_mut` wrote isn't known of the slice afterwards.
 pub fn show(d: &[u8], out: &mut [u8]) -> usize
     ensures { (result ≡ shown out.old d.now) × (out.new ≡ showing out.old d.now) }
 {

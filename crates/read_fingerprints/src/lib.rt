@@ -38,7 +38,7 @@ struct Summed {
     run: Running,
 }
 
-// Where judging starts, and how many attributes stand before it.
+// Where judging starts, and how many attributes stand before it. Such a pair is private here and in `read_message`.
 #[derive(Clone, Copy)]
 struct Place {
     at: usize,
@@ -77,7 +77,7 @@ fn carried(d: &[u8], run: Running, p: usize) -> Running
     }
 }
 
-// Four bytes as a number, the first lowest.
+// Four bytes as a number, the first lowest; one by one, as in `crc_folds`.
 fn low_word(d: &[u8], at: usize) -> u32
     requires { at + 4 ≤ length d.now }
     ensures { result ≡ word (take 4 (drop at d.now)) }
@@ -253,7 +253,7 @@ fn print_fault(
     Err(Refusal::FINGERPRINT)
 }
 
-// Each FINGERPRINT from a place on.
+// Each FINGERPRINT from a place on, which lies in the datagram and has so many attributes before it: `starting` alone makes such a pair.
 fn judge_each(t: Table, d: &[u8], from: usize, before: usize) -> Result<usize, Fault>
     requires { (20 ≤ from) × (from ≤ length d.now) × (before ≤ from) }
     ensures { result ≡ on_from d.now from before }

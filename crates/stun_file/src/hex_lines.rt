@@ -3,6 +3,7 @@ use stun_io::words::is_blank;
 
 // Where reading hex text stands: how many digits there were and the last of them, line and column, and whether the line
 // is a comment.
+// The last digit counts only where their number is odd.
 #[derive(Clone, Copy)]
 pub struct Reached {
     pub digits: u64,

@@ -15,7 +15,7 @@ use stun_io::output::Output;
 use stun_io::status::{Status, Told};
 use stun_io::words::is_comment;
 
-// As much of the input as is kept: more than the digits of a datagram's first bytes.
+// An array, since the program asks for no memory. As much of the input as is kept: more than the digits of a datagram's first bytes.
 const INPUT: usize = 131328;
 
 // The column of a character that is no digit, and whether it is a carriage return.

@@ -67,7 +67,7 @@ fn opened(page: &mut Page, d: &[u8], reading: Reading, total: u64) {
     }
 }
 
-// The number, where to read what to do about it, and the bytes that it is about, where there are bytes.
+// The number, of which `blame` and the names take any, where to read what to do about it, and the bytes that it is about, where there are bytes.
 fn told(page: &mut Page, d: &[u8], n: u8, place: usize) {
     write!(page, ": {} (stun numbers {n} says what to do)", Number(n));
     if !d.is_empty() {

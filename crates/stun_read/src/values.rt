@@ -8,7 +8,7 @@ use std::fmt::{self, Display};
 use stun_io::walk::Attribute;
 use wire::transaction_id::TransactionId;
 
-// A type's name, or its number where it has none.
+// A type's name, or its number where it has none, laid first, since `pad` takes one text.
 #[derive(Clone, Copy)]
 struct Kind(u16);
 

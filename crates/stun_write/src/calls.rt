@@ -65,7 +65,7 @@ fn begun(fields: &mut Fields<'_>, message: &mut [u8]) -> Result<Written, Wanted>
     Ok(write_begin::begin(message, class, Method { code }, id))
 }
 
-// raw TYPE VALUE PADDING
+// raw TYPE VALUE PADDING. Fields, room and message are lent to each call apart: a struct of them would hold three loans of different lives.
 fn raw(fields: &mut Fields<'_>, room: &mut [u8], message: &mut [u8]) -> Result<Written, Wanted> {
     let kind = fields.short(Wanted::AttributeType)?;
     let size = fields.bytes(room, Wanted::Value)?;

@@ -22,12 +22,21 @@ pub struct Script {
     ghost inside: { have ≤ 262144 },
 }
 
-// Where a line stands, without its end. Of a long one, which is longer than the buffer, only the end is there.
+// Where a line stands, without its end. Of one that is longer than the buffer only the end is there.
 #[derive(Clone, Copy)]
-pub struct Line {
-    long: bool,
-    start: usize,
-    end: usize,
+pub enum Line {
+    Within { start: usize, end: usize },
+    Long,
+}
+
+impl Line {
+    fn of(long: bool, start: usize, end: usize) -> Line {
+        if long {
+            Line::Long
+        } else {
+            Line::Within { start, end }
+        }
+    }
 }
 
 impl Script {
@@ -55,10 +64,10 @@ impl Script {
     }
 
     pub fn text(&self, line: Line) -> Result<&[u8], Wanted> {
-        if line.long {
-            return Err(Wanted::Line);
+        match line {
+            Line::Within { start, end } => self.input.get(start..end).ok_or(Wanted::Line),
+            Line::Long => Err(Wanted::Line),
         }
-        self.input.get(line.start..line.end).ok_or(Wanted::Line)
     }
 
     // The line whose end was read.
@@ -67,14 +76,14 @@ impl Script {
         let start = self.start;
         let end = start + size;
         self.start = end + 1;
-        Some(Line { long, start, end })
+        Some(Line::of(long, start, end))
     }
 
     // The line that the input ends in, if there is one.
     fn last(&mut self, long: bool) -> Option<Line> {
         let (start, end) = (self.start, self.have);
         self.start = end;
-        (long || start < end).then_some(Line { long, start, end })
+        (long || start < end).then_some(Line::of(long, start, end))
     }
 
     // Moves what isn't used to the front.

@@ -35,7 +35,8 @@ const F1: [(u8, u8); 4] = [(0xF1, 0xF3), TAIL, TAIL, TAIL];
 
 const F4: [(u8, u8); 4] = [(0xF4, 0xF4), (0x80, 0x8F), TAIL, TAIL];
 
-// Whether a character of a row stands at `at`. All bytes are looked at, which makes a single test of them.
+// Whether a character of a row stands at `at`, a place in the bytes: asked for, here and below, so that no function tests what its caller
+// has tested. All bytes are looked at, which makes a single test of them.
 fn stands<const N: usize>(s: &[u8], at: usize, row: &[(u8, u8); N]) -> bool
     requires { at ≤ length s.now }
     ensures { result ≡ begins (ranges row.now) (drop at s.now) }
@@ -111,7 +112,7 @@ fn ascii_32(s: &[u8], i: usize) -> bool
     (tops(s, i) | tops(s, i + 8) | tops(s, i + 16) | tops(s, i + 24)) == 0
 }
 
-// Past the run of bytes below 128 that starts at `from`. A lone one, as a space between Greek words, is told by the byte behind it.
+// Past the run of bytes below 128 that starts at `from`: a place and no iterator, since each run goes on where the one before it ended. A lone one, as a space between Greek words, is told by the byte behind it.
 fn past_ascii(s: &[u8], from: usize) -> usize
     requires { (from < length s.now) × (get_or s.now from 0 < 0x80) }
     ensures { Past s.now from result }

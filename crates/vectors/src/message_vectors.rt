@@ -15,6 +15,7 @@ const XOR_MAPPED_ADDRESS: u16 = 0x0020;
 
 const ERROR_CODE: u16 = 0x0009;
 
+// A line of its own in each program of vectors: they have no library beside them but what they run.
 fn hex(rt: HostRuntime, s: &[u8]) -> Result<()> {
     for b in s {
         print!(rt; "{b:02x}")?;
@@ -71,7 +72,11 @@ fn address(rt: HostRuntime, section: &str, d: &[u8]) -> Result<()> {
     };
     let value = read_first::first_value(d, XOR_MAPPED_ADDRESS);
     if let Ok(Value::Address(a)) = read_typed::value_of(XOR_MAPPED_ADDRESS, value, reading.id) {
-        print!(rt; "message {section}_address {} {} ", a.family.as_u8(), a.port)?;
+        print!(rt;
+            "message {section}_address {} {} ",
+            a.family.as_u8(),
+            a.port
+        )?;
         hex(rt, &a.ip)?;
         println!(rt)?;
     }

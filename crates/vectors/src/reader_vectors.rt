@@ -12,8 +12,7 @@ fn told(rt: HostRuntime, d: &[u8]) -> Result<()> {
         Ok(count) => println!(rt; " whole 0 {class} {method} {count} 0"),
         Err(fault) => println!(rt;
             " broken {} {class} {method} 0 {}",
-            fault.reason.number,
-            fault.place
+            fault.reason.number, fault.place
         ),
     }
 }

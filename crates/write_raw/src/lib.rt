@@ -22,7 +22,7 @@ fn put_attr(buf: &mut [u8], at: usize, kind: u16, value: &[u8], pad: &[u8])
     put_bytes(buf, at + 4 + n, pad);
 }
 
-// Appends, unless `wrong` is a number by which the caller refuses the value; 21 goes before it, and 24, 25 and 26 behind. A number and no
+// The clause of all that append: answer and buffer are equal to one definition each. Appends, unless `wrong` is a number by which the caller refuses the value; 21 goes before it, and 24, 25 and 26 behind. A number and no
 // `Result`, as in `plan_for`, where any number of the caller's comes back.
 pub fn append_unless(
     buf: &mut [u8],
