@@ -52,6 +52,7 @@ pub fn cratehoist_search(bytes: &[u8], kind: u16) -> First
     first_said(read_first::search(bytes, kind))
 }
 
+// The `Part` is written out here and below: one function for both would have to ask for the room of four bytes behind the place.
 pub fn cratehoist_first_value(datagram: &[u8], kind: u16) -> Part
     ensures { result ≡ value_in (first rfc5389 kind datagram.now) }
 {

@@ -5,6 +5,7 @@ ghost use Rattle.std.specs.Prelude.{◌≡◌};
 ghost use Rattle.c_wire.specs.XorForm.{formed, form_of};
 
 use net::{Family, SocketAddr};
+use wire::refusal::Refusal;
 use wire::transaction_id::TransactionId;
 
 // A transaction ID.
@@ -65,7 +66,7 @@ pub fn cratehoist_address_xor(address: Address, id: Id) -> XorForm
         return form_of(Family::Ipv6, address, id);
     }
     XorForm {
-        number: 12,
+        number: Refusal::FAMILY.number,
         address: Address {
             family: 0,
             port: 0,

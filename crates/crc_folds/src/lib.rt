@@ -100,7 +100,7 @@ fn fold_near(f: Waiting, w: u64) -> Waiting
     }
 }
 
-// The next word goes through its steps. The rule of the table is asked of each caller: only `by_words` has a table, and it is a constant.
+// The next word goes through its steps, in two halves: a remainder and a quotient, so that each cast has a number that fits. The rule of the table is asked of each caller: only `by_words` has a table, and it is a constant.
 fn settle(t: &[u32], f: Waiting, w: u64) -> Waiting
     requires { Rows t.now × (128 ≤ length t.now) }
     ensures { register result ≡ octets 8 (bit_xor (register f) w) }

@@ -28,6 +28,7 @@ fn part(all: usize, at: usize, size: usize) -> Span
     }
 }
 
+// The bytes of an attribute that a number is about: any number, as in `blame`.
 fn in_attribute(d: &[u8], number: u8, place: usize) -> Span
     requires { place < length d.now }
     ensures { result ≡ in_attribute d.now number place }
@@ -44,6 +45,7 @@ fn in_attribute(d: &[u8], number: u8, place: usize) -> Span
 }
 
 // The bytes that a number of the reader is about, as docs/NUMBERS.md counts them; the place is that of the attribute at fault.
+// A number and no `Refusal`: the public clause answers for any.
 pub fn blame(d: &[u8], number: u8, place: usize) -> Span
     ensures { result ≡ blamed d.now number place }
 {

@@ -85,7 +85,8 @@ fn low_word(d: &[u8], at: usize) -> u32
     u32::from_le_bytes([d[at], d[at + 1], d[at + 2], d[at + 3]])
 }
 
-// Carried by a lent table, four bytes a turn: for the few bytes between two FINGERPRINTs.
+// Carried by a lent table, four bytes a turn: for the few bytes between two FINGERPRINTs. That the table has 128 words stands in four
+// contracts: `register_at` asks for it once, and an empty table is a `Table` too.
 fn words(t: Table, d: &[u8], run: Running, p: usize) -> Running
     requires { (128 ≤ length t.rows.now) × Ran d.now run p × (4 ≤ run.upto) × (p ≤ length d.now) }
     ensures { Ran d.now result p × (4 ≤ result.upto) }
@@ -124,7 +125,8 @@ fn two_words(t: Table, d: &[u8], run: Running, p: usize) -> Running
     }
 }
 
-// From a FINGERPRINT to one right behind it, with no loop.
+// From a FINGERPRINT to one right behind it, with no loop. No table, 128 words and 2,048 are one type, as the steps of
+// `crc_byte_tables` take them, and the size tells which it is.
 fn adjacent(t: Table, d: &[u8], run: Running, p: usize) -> Running
     requires { (128 ≤ length t.rows.now) × Ran d.now run p × (4 ≤ run.upto) × (run.upto + 8 ≡ p) × (p ≤ length d.now) }
     ensures { Ran d.now result p × (p ≤ result.upto) }
@@ -253,7 +255,8 @@ fn print_fault(
     Err(Refusal::FINGERPRINT)
 }
 
-// Each FINGERPRINT from a place on, which lies in the datagram and has so many attributes before it: `starting` alone makes such a pair.
+// Each FINGERPRINT from a place on, which lies in the datagram and has so many attributes before it: `starting` alone makes such a pair. A walk
+// by `step`, as in `read_message`: it answers where it stopped.
 fn judge_each(t: Table, d: &[u8], from: usize, before: usize) -> Result<usize, Fault>
     requires { (20 ≤ from) × (from ≤ length d.now) × (before ≤ from) }
     ensures { result ≡ on_from d.now from before }

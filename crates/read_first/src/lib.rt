@@ -14,7 +14,8 @@ pub struct Found {
     pub size: usize,
 }
 
-// The first attribute of a type as far as the walk from place 20 goes, whatever else the bytes are.
+// The first attribute of a type as far as the walk from place 20 goes, whatever else the bytes are. A walk by `step`, as in
+// `read_message`, and what is found ends it.
 pub fn search(d: &[u8], kind: u16) -> Option<Found>
     ensures { first_said result ≡ first_said (placed (first_in kind d.now)) }
 {

@@ -85,7 +85,8 @@ pub fn value_of(kind: u16, value: &[u8], id: TransactionId) -> Result<Value, Ref
     }
 }
 
-// The part that goes with it: the phrase of an ERROR-CODE, the whole value where it is plain, and else an empty part.
+// The part that goes with it: the phrase of an ERROR-CODE, the whole value where it is plain, and else an empty part,
+// as the public clause has it.
 pub fn part_of<'a>(kind: u16, value: &'a [u8]) -> &'a [u8]
     ensures { (result.now ≡ part_of rfc5389 kind value.now) × (result.ref_ptr ≡ (value.entry.ref_ptr.0, part_at rfc5389 kind value.now + value.entry.ref_ptr.1)) }
 {

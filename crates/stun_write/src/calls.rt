@@ -76,7 +76,7 @@ fn raw(fields: &mut Fields<'_>, room: &mut [u8], message: &mut [u8]) -> Result<W
 }
 
 // address TYPE FAMILY PORT IPHEX. A family and a size that are no pair break the rule of an address, whatever its bytes: 23, unless the
-// front is no message.
+// front is no message. Number and size make the family together, so it is no conversion of the number.
 fn address(
     fields: &mut Fields<'_>,
     room: &mut [u8],

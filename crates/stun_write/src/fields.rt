@@ -77,6 +77,7 @@ impl<'a> Fields<'a> {
         Ok(n)
     }
 
+    // As `text_type` below, with another rule and another wish: a function that takes both is no shorter.
     pub fn address_type(&mut self) -> Result<u16, Wanted> {
         let kind = self.short(Wanted::AddressType)?;
         match rule_of(kind) {
@@ -119,7 +120,7 @@ impl<'a> Fields<'a> {
         }
     }
 
-    // The same of types parted by commas, two bytes each.
+    // The same of types parted by commas, two bytes each; their place is counted, since it is answered.
     #[tactic(auto, unfolding(buffers::specs::Put::fits_at, big_endian::specs::Numbers::two))]
     pub fn types(&mut self, out: &mut [u8]) -> Result<usize, Wanted>
         ensures { IfOk result (λ n. n ≤ length out.old) }

@@ -97,7 +97,7 @@ fn tops(s: &[u8], i: usize) -> u64
     word & 0x8080_8080_8080_8080
 }
 
-// Two functions, for one word and for four: a loop over words would say no more, and the turn below wants both.
+// Two functions, for one word and for four: with a constant for how many, four words would be a loop where they are one test.
 fn ascii_8(s: &[u8], i: usize) -> bool
     requires { i + 8 ≤ length s.now }
     ensures { result ≡ begins (ones 8) (drop i s.now) }
@@ -134,7 +134,7 @@ fn past_ascii(s: &[u8], from: usize) -> usize
 }
 
 // Past the run of characters of a row that starts at `from`. Nearly all text outside ASCII is made of three of them, so those have loops
-// of their own.
+// of their own, over places as in `past_ascii`.
 fn past<const N: usize>(s: &[u8], from: usize, row: &[(u8, u8); N]) -> usize
     requires within { from ≤ length s.now }
     requires some { 0 < N }

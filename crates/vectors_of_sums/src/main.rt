@@ -6,6 +6,8 @@ mod crc32_vectors;
 mod sha_vectors;
 mod utf8_vectors;
 
+use std::io::Result;
+
 // The bytes 0, 1, 2 and so on, up to 255.
 fn counting<const N: usize>() -> [u8; N] {
     let mut s = [0; N];
@@ -15,7 +17,19 @@ fn counting<const N: usize>() -> [u8; N] {
     s
 }
 
-fn run(rt: HostRuntime) -> std::io::Result<()> {
+// Bytes in hex.
+fn hex(rt: HostRuntime, s: &[u8]) -> Result<()> {
+    for b in s {
+        print!(rt; "{b:02x}")?;
+    }
+    Ok(())
+}
+
+fn word(yes: bool) -> &'static str {
+    if yes { "yes" } else { "no" }
+}
+
+fn run(rt: HostRuntime) -> Result<()> {
     crc32_vectors::run(rt)?;
     utf8_vectors::run(rt)?;
     sha_vectors::run(rt)

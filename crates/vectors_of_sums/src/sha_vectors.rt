@@ -1,13 +1,11 @@
 // SHA-1 and HMAC-SHA-1: FIPS 180-4's examples and RFC 2202's cases, and sizes where the padding or the key's form changes.
 // Of the latter the values in stdout are not published: they were made with Python's hashlib and hmac.
-use crate::counting;
+use crate::{counting, hex, word};
 use std::io::Result;
 
 // A digest in hex, and the end of its line.
 fn show(rt: HostRuntime, d: [u8; 20]) -> Result<()> {
-    for b in d {
-        print!(rt; "{b:02x}")?;
-    }
+    hex(rt, &d)?;
     println!(rt)
 }
 
@@ -22,12 +20,7 @@ fn numbered(rt: HostRuntime, name: &str, n: usize, d: [u8; 20]) -> Result<()> {
 }
 
 fn agree(rt: HostRuntime, name: &str, d: [u8; 20], s: &[u8]) -> Result<()> {
-    let answer = if hmac::digests::same_digest(d, s) {
-        "yes"
-    } else {
-        "no"
-    };
-    println!(rt; "{name} {answer}")
+    println!(rt; "{name} {}", word(hmac::digests::same_digest(d, s)))
 }
 
 // A million times the letter a, block by block.

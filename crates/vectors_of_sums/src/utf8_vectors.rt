@@ -1,23 +1,17 @@
 // UTF-8: RFC 3629's own examples, the ends of every range of its grammar, sequences cut short, a long text, and a wrong byte at each place.
+use crate::{hex, word};
 use std::io::Result;
-
-fn answer(rt: HostRuntime, yes: bool) -> Result<()> {
-    println!(rt; " {}", if yes { "yes" } else { "no" })
-}
 
 // The bytes in hex are the name.
 fn check(rt: HostRuntime, s: &[u8]) -> Result<()> {
     print!(rt; "utf8 ")?;
-    for b in s {
-        print!(rt; "{b:02x}")?;
-    }
-    answer(rt, utf8::is_utf8(s))
+    hex(rt, s)?;
+    println!(rt; " {}", word(utf8::is_utf8(s)))
 }
 
 // Whether the bytes are UTF-8, and how many code points they have.
 fn text(rt: HostRuntime, name: &str, s: &[u8]) -> Result<()> {
-    print!(rt; "utf8 {name}")?;
-    answer(rt, utf8::is_utf8(s))?;
+    println!(rt; "utf8 {name} {}", word(utf8::is_utf8(s)))?;
     println!(rt; "utf8 {name}_points {:x}", utf8::points::code_points(s))
 }
 
@@ -88,7 +82,8 @@ fn long(rt: HostRuntime) -> Result<()> {
     )
 }
 
-// Forty bytes of ASCII, which are passed over several at a step, and the same with FF at each place.
+// Forty bytes of ASCII, which are passed over several at a step, and the same with FF at each place: an
+// index, since each place is changed and put back.
 fn steps(rt: HostRuntime) -> Result<()> {
     let mut s = [b'a'; 40];
     check(rt, &s)?;

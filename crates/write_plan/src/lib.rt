@@ -15,7 +15,7 @@ pub struct Room {
     pub total: usize,
 }
 
-// Do the attributes of a message cover its body? One walk.
+// Do the attributes of a message cover its body? One walk by `step`: asked is where it stops.
 fn covered(m: &[u8]) -> bool
     requires { 20 ≤ length m.now }
     ensures { result ≡ covers m.now }
