@@ -40,19 +40,10 @@ one_taken s {b} {m} e f =
           ∙ sym (ap (λ (j : ℕ). bit_xor s.sum (times j s.t s.m)) q);
     }
 
-pub then_taken : (i j : ℕ) {s r q : Factors} → Taken i s r → Taken j r q → Taken (i + j) s q
-then_taken i j {s} {r} {q} g h = record { same = λ k. h.same k ∙ g.same (j + k) ∙ ap (λ (n : ℕ). bit_xor s.sum (times n s.t s.m)) (omega arith) }
-
 -- ---- the loop over what is left
 
 pub record Left (k : ℕ) (s r : Factors) (j : ℕ) : Type 0 where
   pub same : comes_to j r ≡ comes_to k s
-
-pub left_start : (k : ℕ) (s : Factors) → Left k s s k
-left_start k s = record { same = refl }
-
-pub left_turn : {k i j : ℕ} {s r q : Factors} → Left k s r j → 1 + i ≡ j → Taken 1 r q → Left k s q i
-left_turn {k} {i} {j} {s} {r} {q} g e t = record { same = t.same i ∙ ap (λ (n : ℕ). comes_to n r) e ∙ g.same }
 
 pub left_nought : {k j : ℕ} {s r : Factors} → Left k s r j → r.t ≡ 0 → r.sum ≡ comes_to k s
 left_nought {k} {j} {s} {r} g e =
@@ -63,9 +54,6 @@ unfolding times
 left_done {k} {j} {s} {r} g h =
     let z : j ≡ 0 = omega arith in
     sym (ap (λ (n : ℕ). comes_to n r) z ∙ xor_zero_r r.sum) ∙ g.same
-
-pub all_taken : (t m : ℕ) {s : Factors} {x : ℕ} → Taken 5 (record { sum = 0; t = t; m = m }) s → x ≡ comes_to 27 s → x ≡ times 32 t m
-all_taken t m g e = e ∙ g.same 27 ∙ xor_zero_l (times 32 t m)
 
 -- the fifth digit alone
 clear_digit : (k u v n : ℕ) → u / 2 ^ 31 ≡ 0 → u % 2 ^ 31 * 2 ≡ v → times (suc k) u n ≡ times k v (bit_step n)

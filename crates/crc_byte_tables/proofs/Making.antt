@@ -1,5 +1,5 @@
 -- A register by bytes, as the code looks them up, and the rows of bytes, made one entry after the other.
-use Rattle.std.proofs.Common.{◌≡◌, sym, ap, ap₂, ◌∙◌, List, [], ◌∷◌, ◌++◌, ℕ, ◌+◌, ◌-◌, ◌*◌, ◌/◌, ◌%◌, ◌≤◌, ◌<◌, lt-ltb, le-ltb, add-one, arith, length, get_or, take, set, length-set, take-suc-set, take_all, get_or-take, bit_xor, ext_get_or, slice_index_or, drop, length-append, length-drop, take_at, w32}
+use Rattle.std.proofs.Common.{◌≡◌, sym, ap, ap₂, ◌∙◌, List, [], ◌∷◌, ◌++◌, ℕ, ◌+◌, ◌-◌, ◌*◌, ◌/◌, ◌%◌, ◌≤◌, ◌<◌, lt-ltb, le-ltb, add-one, arith, length, get_or, take, set, length-set, take-suc-set, get_or-take, bit_xor, ext_get_or, slice_index_or, drop, length-append, length-drop, take_at, w32}
 use Rattle.std.specs.Int.{to_le_bytes}
 use Rattle.std.specs.Int.Bits.{xor_zero_r}
 use Rattle.crc.specs.Crc.{bit_steps, byte_step, bytes_from}
@@ -109,8 +109,3 @@ more_turn {w} {i} g l h =
 
     same : (i - 256) % 256 ≡ i % 256
     same = omega arith
-
-pub more_done : {w : List ℕ} {i : ℕ} → Making 2048 w i → 2048 ≤ i → w ≡ byte_rows 2048
-more_done {w} {i} g h =
-    let e : i ≡ 2048 = omega (arith, g.few) in
-    sym (take_all 2048 w (omega (arith, g.size))) ∙ rw e at g.sofar

@@ -29,9 +29,6 @@ module _ (t : List ℕ) (c : ℕ) (s : List ℕ) where
     pub some : i ≤ length s
     pub left : byte_by_byte t r (drop i s) ≡ byte_by_byte t c s
 
-  pub byted_start : Byted c 0
-  byted_start = record { some = omega arith; left = refl }
-
   pub byted_turn : {r i v : ℕ} → Byted r i → i < length s → v ≡ halves t 0 (bit_xor r (get_or s i 0))
       → Byted (bit_xor v (bit_xor r (get_or s i 0) / 256)) (i + 1)
   unfolding byte_by_byte

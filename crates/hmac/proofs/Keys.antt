@@ -26,9 +26,6 @@ pub record Xoring (k : List ℕ) (x : ℕ) (b : List ℕ) (i : ℕ) : Type 0 whe
   pub size : length k ≡ 64
   pub sofar : b ≡ map (λ y. bit_xor y x) (take i k) ++ drop i k
 
-pub xoring_start : (k : List ℕ) (x : ℕ) → length k ≡ 64 → Xoring k x k 0
-xoring_start k x e = record { some = omega arith; size = e; sofar = refl }
-
 one_more : (f : ℕ → ℕ) (k : List ℕ) (i : ℕ) → i < length k
     → set (map f (take i k) ++ drop i k) i (f (get_or (map f (take i k) ++ drop i k) i 0)) ≡ map f (take (suc i) k) ++ drop (suc i) k
 one_more f [] i h = absurd (not-suc-le-zero h)

@@ -159,9 +159,6 @@ module _ (d : List ℕ) where
   unfolding running_at
   worded_done g = (record { right = run refl refl g.sums g.powers; behind = g.inside; short = g.short }, g.low)
 
-  pub eight_on : (r : Running) {p : ℕ} → Ran d r p → p - r.upto ≡ 8 → r.upto + 8 ≡ p
-  eight_on r g e = omega (arith, g.behind)
-
   -- two turns: what is eight bytes further on
   pub two_words_are : (t : List ℕ) (r : Running) {p v w a b x y : ℕ} → Ran d r p → x ≡ four_by t (bit_xor a w) → a ≡ four_by t (bit_xor r.sum v) → y ≡ four_by t b
       → b ≡ four_by t r.power → v ≡ word (take 4 (drop r.upto d)) → w ≡ word (take 4 (drop (r.upto + 4) d))

@@ -1,5 +1,5 @@
 -- From a place to a later one by whole characters: the steps of the loops, and what `is_utf8` answers.
-use Rattle.std.proofs.Common.{ℕ, zero, suc, ◌+◌, ◌≤◌, ◌<◌, List, [], ◌∷◌, Bool, true, false, ◌≡◌, refl, sym, ap, ◌∙◌, arith, length, get_or, drop, drop_of_length-le, length-drop, drop-cons, drop-drop, ltb, ltb-true, ltb-false}
+use Rattle.std.proofs.Common.{ℕ, zero, suc, ◌+◌, ◌≤◌, ◌<◌, List, [], ◌∷◌, Bool, true, false, ◌≡◌, refl, sym, ap, ◌∙◌, arith, length, get_or, drop, drop_of_length-le, length-drop, drop-cons, drop-drop, ltb, ltb-true}
 use Rattle.std.proofs.lemmas.Bool.{false≢true}
 use Rattle.std.proofs.Math.Decide.{dec_le}
 use Rattle.utf8_spec.specs.Utf8.{Sequence, UTF8-char, OneOf, begins, width, is_utf8}
@@ -56,16 +56,6 @@ on_later {s} {i} {j} x h t = on_one x h (ltb-true (get_or s j 0) 0x80 t)
 -- a run of them that begins at i: it is one alone, or ends at another byte, or at the end
 pub past_one : {s : List ℕ} {i : ℕ} → i < length s → get_or s i 0 < 0x80 → Past s i (i + 1)
 past_one {s} {i} h l = record { some = omega arith; on = on_one (here s i (omega arith)) h l }
-
-pub past_to : {s : List ℕ} {i j : ℕ} → On s i j → get_or s i 0 < 0x80 → ltb (get_or s j 0) 0x80 ≡ false → Past s i j
-past_to {s} {i} {j} x l t = record { some = by (dec_le j i); on = x }
-  where
-    by : Dec (j ≤ i) → i < j
-    by (yes p) = let e : i ≡ j = omega (arith, x.onward) in absurd (omega (arith, ap (λ (k : ℕ). get_or s k 0) e, ltb-false (get_or s j 0) 0x80 t))
-    by (no p) = omega arith
-
-pub past_all : {s : List ℕ} {i j : ℕ} → On s i j → i < length s → length s ≤ j → Past s i j
-past_all x h l = record { some = omega arith; on = x }
 
 -- a character by its width
 module _ (s : List ℕ) (i n : ℕ) (h : i < length s) (e : n ≡ width_at s i) where

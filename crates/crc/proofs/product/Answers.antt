@@ -1,8 +1,5 @@
-use Rattle.crc.proofs.Multiplied.{fifth, all_taken}
+use Rattle.crc.proofs.Multiplied.{fifth}
 use Rattle.crc.proofs.product.Goals as goal
 
 pub returns-then-t-eq134217728 : goal.returns-then-t-eq134217728
 returns-then-t-eq134217728 c = search (fifth)
-
-pub returns : goal.returns
-returns c = search (all_taken)

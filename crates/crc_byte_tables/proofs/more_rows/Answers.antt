@@ -1,5 +1,5 @@
 use Rattle.std.proofs.Common.{◌∙◌, refl, replicate, rules}
-use Rattle.crc_byte_tables.proofs.Making.{more_start, more_turn, more_done}
+use Rattle.crc_byte_tables.proofs.Making.{more_start, more_turn}
 use Rattle.crc_byte_tables.proofs.more_rows.Goals as goal
 
 pub loop-i-init : goal.loop-i-init
@@ -7,6 +7,3 @@ loop-i-init c = (more_start (replicate 2048 0) refl (c.copy_from_slice.ensures.a
 
 pub loop-i-preserved : goal.loop-i-preserved
 loop-i-preserved c = (search (more_turn), search rules)
-
-pub returns : goal.returns
-returns c = search (more_done)

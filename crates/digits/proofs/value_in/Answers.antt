@@ -1,9 +1,6 @@
-use Rattle.std.proofs.Common.{arith, refl, ◌∙◌}
+use Rattle.std.proofs.Common.{arith, ◌∙◌}
 use Rattle.digits.proofs.Values.{no_digit, too_large, turn, done}
 use Rattle.digits.proofs.value_in.Goals as goal
-
-pub loop-b-init : goal.loop-b-init
-loop-b-init c = refl
 
 pub returns-in_err-digit : goal.returns-in_err-digit
 returns-in_err-digit c = c.from_residual.ensures ∙ no_digit _ _ _ _ c.loop-b.invariant c.requires.below c.loop-b-test.true c.from.ensures c.in_err-digit.ensures.value

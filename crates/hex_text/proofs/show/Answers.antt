@@ -1,9 +1,5 @@
-use Rattle.base.specs.LaidLaws.{laying_start}
 use Rattle.hex_text.proofs.Laying.{show_turn, show_done, show_shown, show_showing}
 use Rattle.hex_text.proofs.show.Goals as goal
-
-pub loop-i-init : goal.loop-i-init
-loop-i-init c = laying_start _ _ _
 
 pub loop-i-preserved : goal.loop-i-preserved
 loop-i-preserved c = search (show_turn)

@@ -1,9 +1,5 @@
-use Rattle.base.specs.LaidLaws.{laying_start}
 use Rattle.hex_text.proofs.Laying.{spell_turn, spell_done, first_good, second_good}
 use Rattle.hex_text.proofs.spell.Goals as goal
-
-pub loop-i-init : goal.loop-i-init
-loop-i-init c = laying_start _ _ _
 
 pub nibble-requires : goal.nibble-requires
 nibble-requires c = search (first_good)

@@ -1,9 +1,6 @@
 use Rattle.std.proofs.Common.{rules}
-use Rattle.hmac.proofs.Keys.{xoring_start, xoring_turn, xoring_done}
+use Rattle.hmac.proofs.Keys.{xoring_turn, xoring_done}
 use Rattle.hmac.proofs.xored.Goals as goal
-
-pub loop-b-init : goal.loop-b-init
-loop-b-init c = search (rules, xoring_start)
 
 pub loop-b-preserved : goal.loop-b-preserved
 loop-b-preserved c = search (rules, xoring_turn)

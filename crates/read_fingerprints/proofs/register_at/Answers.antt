@@ -1,4 +1,4 @@
-use Rattle.read_fingerprints.proofs.Runs.{begun_ran, begun_far, arrived, there, eight_on}
+use Rattle.read_fingerprints.proofs.Runs.{begun_ran, begun_far, arrived, there}
 use Rattle.std.proofs.Common.{rules}
 use Rattle.read_fingerprints.proofs.register_at.Goals as goal
 
@@ -10,6 +10,3 @@ returns-then-run-lt4 c = (search (arrived), search (there))
 
 pub returns-then-p-run-gt64 : goal.returns-then-p-run-gt64
 returns-then-p-run-gt64 c = (search (arrived), search (there))
-
-pub adjacent-requires : goal.adjacent-requires
-adjacent-requires c = (search rules, search rules, search rules, search (eight_on), search rules)

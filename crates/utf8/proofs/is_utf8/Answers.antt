@@ -1,10 +1,7 @@
 use Rattle.std.proofs.Common.{arith}
 use Rattle.utf8_spec.specs.Utf8Laws.{row}
-use Rattle.utf8.proofs.Walk.{here, done}
+use Rattle.utf8.proofs.Walk.{done}
 use Rattle.utf8.proofs.is_utf8.Goals as goal
-
-pub loop-i-init : goal.loop-i-init
-loop-i-init c = here _ _ (omega arith)
 
 pub past-pairs-requires : goal.past-pairs-requires
 past-pairs-requires c = (omega arith, (c.in-Some.ensures.on.within, (omega arith, row 1 (omega arith))))
