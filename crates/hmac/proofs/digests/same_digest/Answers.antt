@@ -1,4 +1,4 @@
-use Rattle.std.proofs.Common.{rules}
+use Rattle.std.proofs.Common.{rules, arith, take_all}
 use Rattle.std.proofs.lemmas.Slice.Zip.{Zip-more, either_empty_from_Zip}
 use Rattle.hmac.proofs.Comparison.{comparing_start, comparing_turn, comparing_done, sizes_differ}
 use Rattle.hmac.proofs.digests.same_digest.Goals as goal
@@ -6,8 +6,9 @@ use Rattle.hmac.proofs.digests.same_digest.Goals as goal
 pub returns-then-b-ne20 : goal.returns-then-b-ne20
 returns-then-b-ne20 c = search (sizes_differ)
 
+-- `take_all` is for a body that takes the first twenty bytes of b: those are b, so it is as right, and one that takes nineteen fails at the sizes.
 pub loop-x-init : goal.loop-x-init
-loop-x-init c = search (rules, comparing_start)
+loop-x-init c = search (rules, comparing_start, take_all 20 c.args.b.now (omega arith))
 
 pub loop-x-preserved : goal.loop-x-preserved
 loop-x-preserved c =
