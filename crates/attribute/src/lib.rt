@@ -70,6 +70,7 @@ pub fn step(d: &[u8], at: usize) -> Walk
 }
 
 // The walk in a datagram: the cut where it is refused by 1 to 4 or the place lies in its header.
+#[tactic(auto, using(crate::proofs::Steps::walk_refused, crate::proofs::Steps::walk_header, crate::proofs::Steps::walk_step, header::specs::SaidLaws::header_one, crate::specs::SaidLaws::walk_one))]
 pub fn walk_at(d: &[u8], at: usize) -> Walk
     ensures { walk_said result ≡ walk_said (walk_at d.now at) }
 {

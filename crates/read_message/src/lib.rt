@@ -88,6 +88,7 @@ fn judged(d: &[u8]) -> Result<usize, Fault>
 }
 
 // Reads a datagram.
+#[tactic(auto, using(crate::proofs::Answers::read_refused, crate::proofs::Answers::read_long, crate::proofs::Answers::read_good, header::specs::SaidLaws::header_one))]
 pub fn read(d: &[u8]) -> Result<Reading, Refusal>
     ensures { reading_said result ≡ reading_said (reading_of rfc5389 d.now) }
 {

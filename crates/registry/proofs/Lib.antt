@@ -1,3 +1,2 @@
-mod Faults
 mod Looking
 mod Determined

@@ -127,6 +127,7 @@ pub fn entry_rule(entry: Option<Row>) -> Rule
 }
 
 // Family 1 goes with 8 bytes and family 2 with 20.
+#[tactic(auto, using(std::proofs::lemmas::Bool::Decides::nat_tests), unfolding(wire::specs::Refusal::refused_by, crate::specs::Fault::address_fault))]
 fn address_fault(value: &[u8]) -> Result<(), Refusal>
     ensures { result ≡ refused_by (address_fault value.now) }
 {
@@ -148,6 +149,7 @@ fn text_fault(text: &[u8]) -> Result<(), Refusal>
 }
 
 // Class 3 to 6 and number 0 to 99, before a phrase in UTF-8.
+#[tactic(auto, using(std::proofs::lemmas::Bool::Decides::nat_tests), unfolding(wire::specs::Refusal::refused_by, crate::specs::Fault::code_fault))]
 fn code_fault(value: &[u8]) -> Result<(), Refusal>
     ensures { result ≡ refused_by (code_fault value.now) }
 {
