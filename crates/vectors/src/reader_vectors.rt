@@ -1,31 +1,37 @@
 // The reader: examples of docs/SCOPE.md and docs/DIFFERENCES.md, and what those pages say of each.
-use std::io::{Result, Write};
+use crate::printing::Lines;
 
 // Kind, number, class, method, count, place.
-fn told(rt: HostRuntime, d: &[u8]) -> Result<()> {
-    let reading = match read_message::read(d) {
-        Ok(reading) => reading,
-        Err(refusal) => return println!(rt; " refused {} 0 0 0 0", refusal.number),
+fn told(out: &mut Lines, d: &[u8]) {
+    let (kind, number, class, method, count, place) = match read_message::read(d) {
+        Ok(reading) => {
+            let (class, method) = (reading.class.as_u16(), reading.method.code);
+            match reading.attributes {
+                Ok(count) => (" whole", 0, class, method, count, 0),
+                Err(fault) => (
+                    " broken",
+                    fault.reason.number,
+                    class,
+                    method,
+                    0,
+                    fault.place,
+                ),
+            }
+        }
+        Err(refusal) => (" refused", refusal.number, 0, 0, 0, 0),
     };
-    let (class, method) = (reading.class.as_u16(), reading.method.code);
-    match reading.attributes {
-        Ok(count) => println!(rt; " whole 0 {class} {method} {count} 0"),
-        Err(fault) => println!(rt;
-            " broken {} {class} {method} 0 {}",
-            fault.reason.number, fault.place
-        ),
-    }
+    writeln!(out, "{kind} {number} {class} {method} {count} {place}");
 }
 
-fn case(rt: HostRuntime, name: &[u8], d: &[u8]) -> Result<()> {
-    print!(rt; "reader ")?;
-    rt.stdout().write_all(name)?;
-    told(rt, d)
+fn case(out: &mut Lines, name: &[u8], d: &[u8]) {
+    write!(out, "reader ");
+    out.put(name);
+    told(out, d);
 }
 
 // Cases one after the other: the sizes of name and datagram in a byte each, the name, the datagram. They are one text, since each text
 // costs the prover what three statements do.
-fn each(rt: HostRuntime, s: &[u8]) -> Result<()> {
+fn each(out: &mut Lines, s: &[u8]) {
     let mut rest = s;
     while let [name, size, behind @ ..] = rest {
         let Some((name, behind)) = behind.split_at_checked(usize::from(*name)) else {
@@ -34,16 +40,15 @@ fn each(rt: HostRuntime, s: &[u8]) -> Result<()> {
         let Some((d, behind)) = behind.split_at_checked(usize::from(*size)) else {
             break;
         };
-        case(rt, name, d)?;
+        case(out, name, d);
         rest = behind;
     }
-    Ok(())
 }
 
 // The sheet's P7, REALM at its limit, and FINGERPRINT twice or not last.
-fn values(rt: HostRuntime) -> Result<()> {
+fn values(out: &mut Lines) {
     each(
-        rt,
+        out,
         b"\x02\x20P7\x01\x01\x00\x0C\x21\x12\xA4B\x00\x01\x02\x03\x04\x05\x06\x07\x08\x09\x0A\x0B\x00\x20\x00\x08\
         \x00\x01\xA1G\xE1\x12\xA6C\
         \x09\x98realm_127\x01\x11\x00\x84\x21\x12\xA4B\x00\x00\x00\x00\x00\x00\x00\x00\x00\x00\x00\x00\x00\x14\
@@ -56,13 +61,13 @@ fn values(rt: HostRuntime) -> Result<()> {
         \x80\x28\x00\x04\xB2\xAA\xF9\xF6\x80\x28\x00\x04U\x83\xDBk\
         \x14\x20fingerprint_not_last\x00\x01\x00\x0C\x21\x12\xA4B\x00\x00\x00\x00\x00\x00\x00\x00\x00\x00\x00\x00\
         \x80\x28\x00\x04\xB2\xAA\xF9\xF6\x80\x22\x00\x00",
-    )
+    );
 }
 
 // Where the Rust or RFC 5389 answers otherwise: sections 1, 2 and 5 of docs/DIFFERENCES.md.
-fn differs(rt: HostRuntime) -> Result<()> {
+fn differs(out: &mut Lines) {
     each(
-        rt,
+        out,
         b"\x03\x1C1.2\x01\x11\x00\x08\x21\x12\xA4B\x00\x00\x00\x00\x00\x00\x00\x00\x00\x00\x00\x00\x00\x09\x00\x04\
         \x00\x00\x06\x00\
         \x0A\x1C1.4_method\x00\x20\x00\x08\x21\x12\xA4B\x00\x00\x00\x00\x00\x00\x00\x00\x00\x00\x00\x00\x80\x28\
@@ -84,51 +89,51 @@ fn differs(rt: HostRuntime) -> Result<()> {
         \x03\x205.1\x01\x11\x00\x0C\x21\x12\xA4B\x00\x00\x00\x00\x00\x00\x00\x00\x00\x00\x00\x00\x80\x22\x00\x00\
         \x00\x09\x00\x04\x00\x00\x02\x00\
         \x03\x145.2\x00\x01\x00\x00\x00\x00\x00\x00\x00\x00\x00\x00\x00\x00\x00\x00\x00\x00\x00\x00",
-    )
+    );
 }
 
 // A datagram of so many bytes: its front, zeros, and what it ends in.
-fn long(rt: HostRuntime, name: &[u8], size: usize, front: &[u8], end: &[u8]) -> Result<()> {
+fn long(out: &mut Lines, name: &[u8], size: usize, front: &[u8], end: &[u8]) {
     let mut d = [0u8; 65552];
     if d.len() < size || size < end.len() {
-        return Ok(());
+        return;
     }
     buffers::put_bytes(&mut d, 0, front);
     buffers::put_bytes(&mut d, size - end.len(), end);
-    case(rt, name, &d[..size])
+    case(out, name, &d[..size]);
 }
 
 // FINGERPRINT behind 65,536 bytes, section 1.5 of that page, and behind 65,544, as far back as one can start: right and wrong.
-fn far(rt: HostRuntime) -> Result<()> {
+fn far(out: &mut Lines) {
     long(
-        rt,
+        out,
         b"1.5",
         65544,
         b"\x00\x01\xFF\xF4\x21\x12\xA4B\x00\x00\x00\x00\x00\x00\x00\x00\x00\x00\x00\x00\xC0\x01\xFF\xE8",
         b"\x80\x28\x00\x04\xED\x5C\x11\xF4",
-    )?;
+    );
     let front: &[u8] =
         b"\x00\x01\xFF\xFC\x21\x12\xA4B\x00\x00\x00\x00\x00\x00\x00\x00\x00\x00\x00\x00\xC0\x01\xFF\xF0";
     long(
-        rt,
+        out,
         b"fingerprint_farthest",
         65552,
         front,
         b"\x80\x28\x00\x04M\xE7\x5E\xBC",
-    )?;
+    );
     long(
-        rt,
+        out,
         b"fingerprint_farthest_wrong",
         65552,
         front,
         b"\x80\x28\x00\x04M\xE7\x5E\xBD",
-    )
+    );
 }
 
 // Its section 7.
-fn cut(rt: HostRuntime) -> Result<()> {
+fn cut(out: &mut Lines) {
     each(
-        rt,
+        out,
         b"\x03\x137.1\x00\x01\x00\x00\x21\x12\xA4B\x00\x00\x00\x00\x00\x00\x00\x00\x00\x00\x00\
         \x03\x147.2\x00\x01\x00\x04\x21\x12\xA4B\x00\x00\x00\x00\x00\x00\x00\x00\x00\x00\x00\x00\
         \x03\x157.3\x00\x01\x00\x00\x21\x12\xA4B\x00\x00\x00\x00\x00\x00\x00\x00\x00\x00\x00\x00\x00\
@@ -150,13 +155,13 @@ fn cut(rt: HostRuntime) -> Result<()> {
         \x04\x1C7.12\x00\x01\x00\x08\x21\x12\xA4B\x00\x00\x00\x00\x00\x00\x00\x00\x00\x00\x00\x00\x80\x22\x00\x02\
         \xC0\x80\x00\x00\
         \x04\x187.13\x00\x01\x00\x04\x21\x12\xA4B\x00\x00\x00\x00\x00\x00\x00\x00\x00\x00\x00\x00\x80\x22\x00\x00",
-    )
+    );
 }
 
 // Values below and above their size: 7.14 to 7.17.
-fn sizes(rt: HostRuntime) -> Result<()> {
+fn sizes(out: &mut Lines) {
     each(
-        rt,
+        out,
         b"\x04\x187.14\x00\x01\x00\x04\x21\x12\xA4\x42\x00\x00\x00\x00\x00\x00\x00\x00\x00\x00\x00\x00\x00\x08\x00\
         \x00\
         \x04\x187.15\x00\x01\x00\x04\x21\x12\xA4\x42\x00\x00\x00\x00\x00\x00\x00\x00\x00\x00\x00\x00\x80\x28\x00\
@@ -165,13 +170,13 @@ fn sizes(rt: HostRuntime) -> Result<()> {
         \x05\xB2\xAA\xF9\xF6\x00\x00\x00\x00\
         \x04\x187.17\x01\x11\x00\x04\x21\x12\xA4\x42\x00\x00\x00\x00\x00\x00\x00\x00\x00\x00\x00\x00\x00\x09\x00\
         \x00",
-    )
+    );
 }
 
 // Its section 8.
-fn rfc(rt: HostRuntime) -> Result<()> {
+fn rfc(out: &mut Lines) {
     each(
-        rt,
+        out,
         b"\x0A\x308.1_behind\x00\x01\x00\x1C\x21\x12\xA4B\x00\x00\x00\x00\x00\x00\x00\x00\x00\x00\x00\x00\x00\x08\
         \x00\x14\xA7c0U\xF1\x9EJw\xA9\xF1\x88q\xA19\xE7\xE5\xAF\xC8\x80i\x00\x14\x00\x00\
         \x0A\x308.1_judged\x00\x01\x00\x1C\x21\x12\xA4B\x00\x00\x00\x00\x00\x00\x00\x00\x00\x00\x00\x00\x00\x08\
@@ -186,14 +191,14 @@ fn rfc(rt: HostRuntime) -> Result<()> {
         \x80\x22\x00\x01\xFF\x00\x00\x00\
         \x03\x1C8.8\x00\x01\x00\x08\x21\x12\xA4B\x00\x00\x00\x00\x00\x00\x00\x00\x00\x00\x00\x00\x80\x28\x00\x04\
         \x00\x00\x00\x00",
-    )
+    );
 }
 
-pub fn run(rt: HostRuntime) -> Result<()> {
-    values(rt)?;
-    differs(rt)?;
-    far(rt)?;
-    cut(rt)?;
-    sizes(rt)?;
-    rfc(rt)
+pub fn run(out: &mut Lines) {
+    values(out);
+    differs(out);
+    far(out);
+    cut(out);
+    sizes(out);
+    rfc(out);
 }
