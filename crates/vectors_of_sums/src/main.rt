@@ -3,10 +3,11 @@
 #![tactic(auto)]
 
 mod crc32_vectors;
+mod printing;
 mod sha_vectors;
 mod utf8_vectors;
 
-use std::io::Result;
+use printing::Lines;
 
 // The bytes 0, 1, 2 and so on, up to 255.
 fn counting<const N: usize>() -> [u8; N] {
@@ -17,25 +18,14 @@ fn counting<const N: usize>() -> [u8; N] {
     s
 }
 
-// Bytes in hex.
-fn hex(rt: HostRuntime, s: &[u8]) -> Result<()> {
-    for b in s {
-        print!(rt; "{b:02x}")?;
-    }
-    Ok(())
-}
-
+// How a line ends.
 fn word(yes: bool) -> &'static str {
-    if yes { "yes" } else { "no" }
+    if yes { " yes\n" } else { " no\n" }
 }
 
-fn run(rt: HostRuntime) -> Result<()> {
-    crc32_vectors::run(rt)?;
-    utf8_vectors::run(rt)?;
-    sha_vectors::run(rt)
-}
-
-// What can't be written is let go: whoever compares the output sees what is missing.
 fn main(rt: HostRuntime) {
-    let _ = run(rt);
+    let mut out = Lines { rt };
+    crc32_vectors::run(&mut out);
+    utf8_vectors::run(&mut out);
+    sha_vectors::run(&mut out);
 }

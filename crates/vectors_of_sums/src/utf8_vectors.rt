@@ -1,70 +1,69 @@
 // UTF-8: RFC 3629's own examples, the ends of every range of its grammar, sequences cut short, a long text, and a wrong byte at each place.
-use crate::{hex, word};
-use std::io::Result;
+use crate::printing::Lines;
+use crate::word;
 
 // The bytes in hex are the name.
-fn check(rt: HostRuntime, s: &[u8]) -> Result<()> {
-    print!(rt; "utf8 ")?;
-    hex(rt, s)?;
-    println!(rt; " {}", word(utf8::is_utf8(s)))
+fn check(out: &mut Lines, s: &[u8]) {
+    write!(out, "utf8 ");
+    out.hex(s);
+    write!(out, "{}", word(utf8::is_utf8(s)));
 }
 
 // Whether the bytes are UTF-8, and how many code points they have.
-fn text(rt: HostRuntime, name: &str, s: &[u8]) -> Result<()> {
-    println!(rt; "utf8 {name} {}", word(utf8::is_utf8(s)))?;
-    println!(rt; "utf8 {name}_points {:x}", utf8::points::code_points(s))
+fn text(out: &mut Lines, name: &str, s: &[u8]) {
+    write!(out, "utf8 {name}{}", word(utf8::is_utf8(s)));
+    writeln!(out, "utf8 {name}_points {:x}", utf8::points::code_points(s));
 }
 
 // Byte strings one after the other, each behind its size. They are one text, since each text costs the prover what three statements do.
-fn each(rt: HostRuntime, s: &[u8]) -> Result<()> {
+fn each(out: &mut Lines, s: &[u8]) {
     let mut rest = s;
     while let [size, behind @ ..] = rest {
         let Some((s, behind)) = behind.split_at_checked(usize::from(*size)) else {
             break;
         };
-        check(rt, s)?;
+        check(out, s);
         rest = behind;
     }
-    Ok(())
 }
 
 // The ends of each range of the grammar, and the bytes beside them.
-fn ends(rt: HostRuntime) -> Result<()> {
+fn ends(out: &mut Lines) {
     each(
-        rt,
+        out,
         b"\x01\x00\x01\x7F\x01\x80\x01\xBF\x02\xC0\x80\x02\xC1\xBF\x02\xC2\x80\x02\xDF\xBF\x03\xE0\x9F\xBF\
         \x03\xE0\xA0\x80\x03\xE0\xBF\xBF\x03\xE1\x80\x80\x03\xEC\xBF\xBF\x03\xED\x80\x80\x03\xED\x9F\xBF\
         \x03\xED\xA0\x80\x03\xED\xBF\xBF\x03\xEE\x80\x80\x03\xEF\xBF\xBF\x04\xF0\x8F\xBF\xBF\
         \x04\xF0\x90\x80\x80\x04\xF0\xBF\xBF\xBF\x04\xF1\x80\x80\x80\x04\xF3\xBF\xBF\xBF\
         \x04\xF4\x80\x80\x80\x04\xF4\x8F\xBF\xBF\x04\xF4\x90\x80\x80\x04\xF5\x80\x80\x80\x01\xF5\x01\xFE\
         \x01\xFF",
-    )
+    );
 }
 
 // A byte beside UTF8-tail at each place behind the first.
-fn beside(rt: HostRuntime) -> Result<()> {
+fn beside(out: &mut Lines) {
     each(
-        rt,
+        out,
         b"\x02\xC2\x7F\x02\xC2\xC0\x03\xE1\x80\x7F\x03\xE1\x80\xC0\x03\xE1\x7F\x80\x03\xE1\xC0\x80\
         \x04\xF1\x80\x80\x7F\x04\xF1\x80\x80\xC0\x04\xF1\x80\x7F\x80\x04\xF1\x80\xC0\x80\
         \x04\xF1\x7F\x80\x80\x04\xF1\xC0\x80\x80",
-    )
+    );
 }
 
 // Each width cut short at each byte, at the end and before another character.
-fn cut(rt: HostRuntime) -> Result<()> {
+fn cut(out: &mut Lines) {
     each(
-        rt,
+        out,
         b"\x01\xC2\x01\xE0\x02\xE0\xA0\x01\xE1\x02\xE1\x80\x01\xED\x02\xED\x9F\x01\xEE\x02\xEE\x80\x01\xF0\
         \x02\xF0\x90\x03\xF0\x90\x80\x01\xF1\x02\xF1\x80\x03\xF1\x80\x80\x01\xF4\x02\xF4\x8F\
         \x03\xF4\x8F\xBF\x02\xC2\x41\x03\xE1\x80\x41\x04\xF1\x80\x80\x41\x05\xE1\x80\xE1\x80\x80",
-    )
+    );
 }
 
 // Greek, English, Korean, Japanese, Russian, German, characters of four bytes, and the ends of the ranges.
-fn long(rt: HostRuntime) -> Result<()> {
+fn long(out: &mut Lines) {
     text(
-        rt,
+        out,
         "long",
         b"\xCE\x8C\xCF\x80\xCE\xBF\xCE\xB9\xCE\xBF\xCF\x82 \xCE\xB5\xCE\xBB\xCE\xB5\xCF\x8D\xCE\xB8\xCE\xB5\
         \xCF\x81\xCE\xB1 \xCF\x83\xCF\x85\xCE\xBB\xCE\xBB\xCE\xBF\xCE\xB3\xCE\xAC\xCF\x84\xCE\xB1\xCE\xB9, \
@@ -79,31 +78,30 @@ fn long(rt: HostRuntime) -> Result<()> {
         \xD0\xBB\xD0\xBE\xD0\xBA. Zw\xC3\xB6lf Boxk\xC3\xA4mpfer jagen Viktor quer \xC3\xBCber den Sylter De\
         ich. \xF0\x9F\x98\x80\xF0\x9F\x9A\x80\xF0\x9D\x84\x9E\xF0\x90\x8D\x88 \x00\x7F\xC2\x80\xDF\xBF\xE0\
         \xA0\x80\xED\x9F\xBF\xEE\x80\x80\xEF\xBF\xBF\xF0\x90\x80\x80\xF4\x8F\xBF\xBF.",
-    )
+    );
 }
 
 // Forty bytes of ASCII, which are passed over several at a step, and the same with FF at each place: an
 // index, since each place is changed and put back.
-fn steps(rt: HostRuntime) -> Result<()> {
+fn steps(out: &mut Lines) {
     let mut s = [b'a'; 40];
-    check(rt, &s)?;
+    check(out, &s);
     for i in 0..40 {
         s[i] = 0xFF;
-        check(rt, &s)?;
+        check(out, &s);
         s[i] = b'a';
     }
-    Ok(())
 }
 
-pub fn run(rt: HostRuntime) -> Result<()> {
+pub fn run(out: &mut Lines) {
     // section 7
-    text(rt, "not_identical", b"A\xE2\x89\xA2\xCE\x91.")?;
-    text(rt, "hangugeo", b"\xED\x95\x9C\xEA\xB5\xAD\xEC\x96\xB4")?;
-    text(rt, "nihongo", b"\xE6\x97\xA5\xE6\x9C\xAC\xE8\xAA\x9E")?;
-    text(rt, "stump", b"\xEF\xBB\xBF\xF0\xA3\x8E\xB4")?;
-    long(rt)?;
-    ends(rt)?;
-    beside(rt)?;
-    cut(rt)?;
-    steps(rt)
+    text(out, "not_identical", b"A\xE2\x89\xA2\xCE\x91.");
+    text(out, "hangugeo", b"\xED\x95\x9C\xEA\xB5\xAD\xEC\x96\xB4");
+    text(out, "nihongo", b"\xE6\x97\xA5\xE6\x9C\xAC\xE8\xAA\x9E");
+    text(out, "stump", b"\xEF\xBB\xBF\xF0\xA3\x8E\xB4");
+    long(out);
+    ends(out);
+    beside(out);
+    cut(out);
+    steps(out);
 }
