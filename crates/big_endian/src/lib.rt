@@ -8,11 +8,11 @@ ghost use Rattle.big_endian.specs.Numbers.{be16, be32};
 pub fn u16_at(d: &[u8], at: usize) -> u16
     ensures { result ≡ be16 d.now at }
 {
-    match d.get(at..) {
-        Some([high, low, ..]) => u16::from_be_bytes([*high, *low]),
-        Some([high]) => u16::from_be_bytes([*high, 0]),
-        _ => 0,
-    }
+    let Some(high) = d.get(at) else {
+        return 0;
+    };
+    let low = d.get(at + 1).copied().unwrap_or(0);
+    u16::from_be_bytes([*high, low])
 }
 
 // The 32-bit number at a place, by the same rule. A pattern of four bytes would need a case for each number of bytes that are there.

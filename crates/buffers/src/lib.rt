@@ -10,10 +10,12 @@ ghost use Rattle.buffers.specs.Put.{fits_at, put};
 pub fn put_bytes(buf: &mut [u8], at: usize, src: &[u8]) -> bool
     ensures { (result ≡ fits_at buf.old at src.now) × (buf.new ≡ put buf.old at src.now) }
 {
-    // A write through what `get_mut` hands out isn't known of the buffer afterwards; one into a range by name is.
     match at.checked_add(src.len()) {
         Some(end) if end <= buf.len() => {
-            buf[at..end].copy_from_slice(src);
+            // One by one: `copy_from_slice` calls memmove, and the archive for C needs memcpy and memset only.
+            for (j, b) in src.iter().enumerate() {
+                buf[at + j] = *b;
+            }
             true
         }
         _ => false,
