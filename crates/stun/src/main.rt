@@ -4,10 +4,10 @@
 
 use hex_text::HexFault;
 use std::env::{Env, FillError};
-use std::io::{Error, Write};
+use std::io::Error;
 use std::process::ExitCode;
 use stun_file::Form;
-use stun_io::complaints::fail;
+use stun_io::complaints::{Complaint, fail};
 use stun_io::status::{Status, Told};
 use stun_lines::answers::Job;
 
@@ -57,9 +57,10 @@ fn is_last(rt: HostRuntime, i: usize) -> bool {
 // Refuses the argument at a place.
 fn refuse(rt: HostRuntime, i: usize) -> Told {
     let mut buf = [0u8; NAME];
-    let _ = eprint!(rt; "stun: not understood: ");
-    let _ = rt.stderr().write_all(word(rt, i, &mut buf));
-    let _ = eprintln!(rt; " (stun alone shows the commands)");
+    let mut complaint = Complaint::new(rt);
+    complaint.put(b"stun: not understood: ");
+    complaint.put(word(rt, i, &mut buf));
+    complaint.put(b" (stun alone shows the commands)\n");
     Told
 }
 
@@ -74,34 +75,36 @@ fn no_more(rt: HostRuntime, count: usize) -> Result<(), Told> {
 // A key in hex; its bytes go to a buffer.
 fn key_at(rt: HostRuntime, i: usize, key: &mut [u8]) -> Result<&[u8], Told> {
     let mut buf = [0u8; DIGITS];
-    match hex_text::unhex(whole(rt, i, &mut buf, "the key")?, key) {
+    let mut complaint = Complaint::new(rt);
+    match hex_text::unhex(whole(rt, i, &mut buf, "stun: the key")?, key) {
         Ok(size) => return Ok(key.get(..size).unwrap_or_default()),
         Err(HexFault::Bad(p)) => {
             let column = p.saturating_add(1);
-            let _ = eprintln!(rt; "stun: the key, column {column}: not a hex digit");
+            complaint.put(b"stun: the key");
+            write!(complaint, ", column {column}: not a hex digit\n");
         }
-        Err(HexFault::Odd) => {
-            let _ = eprintln!(rt; "stun: the key has an odd number of hex digits");
-        }
+        Err(HexFault::Odd) => complaint.put(b"stun: the key has an odd number of hex digits\n"),
     }
     Err(Told)
 }
 
 fn check_command(rt: HostRuntime) -> Result<Status, Told> {
     if !is_last(rt, 3) {
-        let _ = eprintln!(rt; "stun: check takes a key in hex and a file (- for standard input)");
+        Complaint::new(rt).put(
+            b"stun: check takes a key in hex and a file (- for standard input)\n",
+        );
         return Err(Told);
     }
     let mut key = [0u8; DIGITS];
     let key = key_at(rt, 2, &mut key)?;
     let mut path = [0u8; NAME];
-    let path = whole(rt, 3, &mut path, "the file's name")?;
+    let path = whole(rt, 3, &mut path, "stun: the file's name")?;
     stun_read::check(rt, path, key)
 }
 
 fn read_at(rt: HostRuntime, i: usize, form: Option<Form>) -> Result<Status, Told> {
     let mut path = [0u8; NAME];
-    let path = whole(rt, i, &mut path, "the file's name")?;
+    let path = whole(rt, i, &mut path, "stun: the file's name")?;
     stun_read::read(rt, path, form)
 }
 
@@ -126,7 +129,7 @@ fn read_command(rt: HostRuntime) -> Result<Status, Told> {
             }
         }
     }
-    let _ = eprintln!(rt; "stun: read takes a file (- for standard input), and --hex or --raw");
+    Complaint::new(rt).put(b"stun: read takes a file (- for standard input), and --hex or --raw\n");
     Err(Told)
 }
 

@@ -7,8 +7,8 @@ mod hex_lines;
 
 use hex_lines::{BadDigit, Reached};
 use std::fs::File;
-use std::io::{Read, Write};
-use stun_io::complaints::fail;
+use std::io::Read;
+use stun_io::complaints::{Complaint, unread};
 use stun_io::input::read_some;
 use stun_io::status::Told;
 use stun_io::words::is_blank;
@@ -70,13 +70,18 @@ impl<'a, R: Read> Source<'a, R> {
     fn bad_digit(&self, at: BadDigit) -> Told {
         let name = self.name;
         let BadDigit { line, column } = at;
-        let _ = eprintln!(self.rt; "stun: {name}: line {line}, column {column}: not a hex digit");
+        let mut complaint = Complaint::new(self.rt);
+        write!(
+            complaint,
+            "stun: {name}: line {line}, column {column}: not a hex digit\n"
+        );
         Told
     }
 
     fn odd(&self) -> Told {
         let name = self.name;
-        let _ = eprintln!(self.rt; "stun: {name}: an odd number of hex digits");
+        let mut complaint = Complaint::new(self.rt);
+        write!(complaint, "stun: {name}: an odd number of hex digits\n");
         Told
     }
 
@@ -141,12 +146,13 @@ pub fn datagram<'a>(
         return source.datagram(form, raw);
     }
     let Ok(name) = std::str::from_utf8(path) else {
-        let _ = eprint!(rt; "stun: ");
-        let _ = rt.stderr().write_all(path);
-        let _ = eprintln!(rt; ": the name is not UTF-8");
+        let mut complaint = Complaint::new(rt);
+        complaint.put(b"stun: ");
+        complaint.put(path);
+        complaint.put(b": the name is not UTF-8\n");
         return Err(Told);
     };
-    let reader = File::open(&rt, name).map_err(|error| fail(rt, name, &error))?;
+    let reader = File::open(&rt, name).map_err(|error| unread(rt, name, &error))?;
     let mut source = Source { rt, reader, name };
     source.datagram(form, raw)
 }

@@ -1,7 +1,7 @@
 // Bytes that are read.
 ghost use Rattle.std.specs.Prelude.{◌≤◌, length, IfOk};
 
-use crate::complaints::fail;
+use crate::complaints::unread;
 use crate::status::Told;
 use std::io::Read;
 
@@ -17,5 +17,5 @@ pub fn read_some<R: Read>(
 ) -> Result<usize, Told>
     ensures { IfOk result (λ n. n ≤ length room.old) }
 {
-    source.read(room).map_err(|error| fail(rt, name, &error))
+    source.read(room).map_err(|error| unread(rt, name, &error))
 }

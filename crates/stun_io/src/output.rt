@@ -4,18 +4,22 @@ ghost use Rattle.std.specs.Prelude.{◌≤◌};
 use crate::complaints::unwritten;
 use crate::status::Status;
 use std::fmt;
-use std::io::{self, Error, ErrorKind, Write};
+use std::io::{self, Error, Write};
 
 const ROOM: usize = 65536;
 
+// The system's number for a pipe that nobody reads.
+const EPIPE: i32 = 32;
+
 // What waits to be written stands at the front of the buffer, which is an array as all of the program's are: no input ends it for want
-// of memory. Beside it the first write that failed, and what the input makes the program end with.
-#[derive(Drop)]
+// of memory. Beside it the system's number for the first write that failed (a number, since an error can't be copied), and what the input
+// makes the program end with.
+#[derive(Clone, Copy)]
 pub struct Output {
     rt: HostRuntime,
     buf: [u8; ROOM],
     waiting: usize,
-    failure: Option<Error>,
+    failure: Option<i32>,
     status: Status,
     ghost inside: { waiting ≤ 65536 },
 }
@@ -39,15 +43,12 @@ impl Output {
 
     // Did a pipe break? Nothing more is to be told then.
     pub fn broken(&self) -> bool {
-        match &self.failure {
-            Some(error) => Status::from(error) == Status::Broken,
-            None => false,
-        }
+        self.failure == Some(EPIPE)
     }
 
     // Notes that nobody reads what is complained of, which ends the program as a broken pipe of standard output does.
     pub fn unheard(&mut self) {
-        self.failure = Some(Error::from(ErrorKind::BrokenPipe));
+        self.failure = Some(EPIPE);
     }
 
     // Notes that some input was at fault, or couldn't be read, which has been told.
@@ -58,7 +59,7 @@ impl Output {
     // Notes a write that failed: after it nothing more is written.
     fn noted(&mut self, said: io::Result<()>) {
         if let Err(error) = said {
-            self.failure = Some(error);
+            self.failure = Some(error.raw_os_error().unwrap_or(0));
         }
     }
 
@@ -103,8 +104,8 @@ impl Output {
     // input did.
     pub fn finish(&mut self) -> Status {
         self.flush();
-        match &self.failure {
-            Some(error) => unwritten(self.rt, error),
+        match self.failure {
+            Some(code) => unwritten(self.rt, &Error::from_raw_os_error(code)),
             None => self.status,
         }
     }
@@ -119,6 +120,22 @@ impl fmt::Write for Output {
     fn write_str(&mut self, s: &str) -> fmt::Result {
         self.put(s.as_bytes());
         Ok(())
+    }
+}
+
+// A number and the sign behind it, laid as one piece: where the buffer is full, what waits is written before both.
+#[derive(Clone, Copy)]
+pub struct Signed(pub u64, pub char);
+
+impl fmt::Display for Signed {
+    fn fmt<W: fmt::Write>(&self, f: &mut fmt::Formatter<W>) -> fmt::Result {
+        let Signed(n, sign) = *self;
+        let mut text = [0u8; 24];
+        let mut room: &mut [u8] = &mut text;
+        let _ = write!(room, "{n}{sign}");
+        let size = 24usize.saturating_sub(room.len());
+        let digits = text.get(..size).unwrap_or_default();
+        f.write_str(std::str::from_utf8(digits).unwrap_or_default())
     }
 }
 

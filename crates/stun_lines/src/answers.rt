@@ -2,7 +2,7 @@
 use attribute::Walk;
 use net::SocketAddr;
 use read_typed::Value;
-use stun_io::output::{Hex, Output};
+use stun_io::output::{Hex, Output, Signed};
 use stun_io::walk::{Attribute, Attributes};
 use wire::refusal::number_of;
 use wire::transaction_id::TransactionId;
@@ -26,14 +26,16 @@ fn reading(out: &mut Output, d: &[u8]) {
             return;
         }
     };
-    let (class, method) = (reading.class.as_u16(), reading.method.as_u16());
+    let class = Signed(reading.class.as_u16() as u64, ' ');
+    let method = Signed(reading.method.as_u16() as u64, ' ');
     let id = Hex(&reading.id.bytes);
     match reading.attributes {
-        Ok(count) => write!(out, "whole {class} {method} {id} {count}"),
+        Ok(count) => write!(out, "whole {class}{method}{id} {count}"),
         Err(fault) => write!(
             out,
-            "broken {class} {method} {id} {} {}",
-            fault.reason.number, fault.place
+            "broken {class}{method}{id} {}{}",
+            Signed(fault.reason.number as u64, ' '),
+            fault.place
         ),
     }
 }
@@ -52,9 +54,13 @@ fn walk(out: &mut Output, d: &[u8]) {
         let end = place.saturating_add(value.len());
         write!(
             out,
-            "{at}:{kind:04x}:{place}:{}:{end}:{} ",
-            value.len(),
-            padding.len()
+            "{}{}:{}{}{}{}",
+            Signed(at as u64, ':'),
+            Hex(&kind.to_be_bytes()),
+            Signed(place as u64, ':'),
+            Signed(value.len() as u64, ':'),
+            Signed(end as u64, ':'),
+            Signed(padding.len() as u64, ' ')
         );
     }
     match walk.here() {
@@ -70,15 +76,21 @@ fn said(out: &mut Output, a: Attribute<'_>, id: TransactionId) {
         Ok(Value::Address(address)) => {
             let SocketAddr { family, port, ip } = address;
             let ip = ip.get(..family.ip_size()).unwrap_or_default();
-            write!(out, "addr={}={port}={}", family.as_u8(), Hex(ip));
+            write!(
+                out,
+                "addr={}{}{}",
+                Signed(family.as_u8() as u64, '='),
+                Signed(port as u64, '='),
+                Hex(ip)
+            );
         }
         Ok(Value::Code(error)) => {
             let phrase = read_typed::part_of(a.kind, a.value);
             write!(
                 out,
-                "error={}={}={}",
-                error.code,
-                error.reserved,
+                "error={}{}{}",
+                Signed(error.code as u64, '='),
+                Signed(error.reserved as u64, '='),
                 Hex(phrase)
             );
         }
@@ -97,7 +109,12 @@ fn values(out: &mut Output, d: &[u8]) {
             if !none {
                 out.put(b" ");
             }
-            write!(out, "{}:{:04x}:", a.at, a.kind);
+            write!(
+                out,
+                "{}{}:",
+                Signed(a.at as u64, ':'),
+                Hex(&a.kind.to_be_bytes())
+            );
             said(out, a, id);
             none = false;
         }

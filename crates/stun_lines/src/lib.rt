@@ -9,7 +9,7 @@ mod progress;
 use answers::{Job, answer};
 use hex_text::HexFault;
 use progress::Watch;
-use stun_io::complaints::is_heard;
+use stun_io::complaints::Complaint;
 use stun_io::input::{MOST, read_some};
 use stun_io::output::Output;
 use stun_io::status::{Status, Told};
@@ -73,13 +73,13 @@ impl<'a> Lines<'a> {
             return;
         }
         let line = self.line;
-        let said = match column {
-            Some(column) => eprintln!(self.rt;
-                "stun: line {line}, column {column}: not a hex digit"
-            ),
-            None => eprintln!(self.rt; "stun: line {line}: an odd number of hex digits"),
-        };
-        if is_heard(said) {
+        let mut complaint = Complaint::new(self.rt);
+        write!(complaint, "stun: line {line}");
+        match column {
+            Some(column) => write!(complaint, ", column {column}: not a hex digit\n"),
+            None => complaint.put(b": an odd number of hex digits\n"),
+        }
+        if complaint.is_heard() {
             self.out.note(Status::Fault);
             self.out.put(b"?\n");
         } else {

@@ -1,6 +1,7 @@
 // How far long work is: on a terminal's standard error, once a second, where the answers go elsewhere.
 use std::io::IsTerminal;
 use std::time::{SystemTime, UNIX_EPOCH};
+use stun_io::complaints::Complaint;
 
 // The second of the last report, and how many lines were done then.
 #[derive(Clone, Copy)]
@@ -36,13 +37,15 @@ impl Watch {
         let now = second(self.rt);
         if now != self.second {
             let more = done.saturating_sub(self.done);
-            let _ = eprint!(self.rt; "\r{done} lines, {more} in the last second ");
+            let mut complaint = Complaint::new(self.rt);
+            write!(complaint, "\r{done} lines, {more} in the last second ");
             self.second = now;
             self.done = done;
         }
     }
 
     pub fn end(&self, done: u64) {
-        let _ = eprintln!(self.rt; "\r{done} lines, done                    ");
+        let mut complaint = Complaint::new(self.rt);
+        write!(complaint, "\r{done} lines, done                    \n");
     }
 }

@@ -1,5 +1,5 @@
 // A hex dump with some bytes marked: in brackets, and in red where there are colours.
-use crate::page::Page;
+use crate::page::{Digits, Page};
 use display::Span;
 
 fn is_marked(mark: Span, i: usize) -> bool {
@@ -8,7 +8,9 @@ fn is_marked(mark: Span, i: usize) -> bool {
 
 // A row behind a line end: its place and up to sixteen bytes, with a bracket where marked ones begin or end.
 fn row(page: &mut Page, at: usize, s: &[u8], mark: Span) {
-    write!(page, "\n{at:5} ");
+    page.print(b"\n");
+    page.column(at, 5);
+    page.print(b" ");
     let mut before = false;
     for (i, b) in s.iter().enumerate() {
         let now = is_marked(mark, at.saturating_add(i));
@@ -18,9 +20,9 @@ fn row(page: &mut Page, at: usize, s: &[u8], mark: Span) {
             _ => page.print(b" "),
         }
         if now {
-            page.bad(format_args!("{b:02x}"));
+            page.bad(Digits(*b));
         } else {
-            write!(page, "{b:02x}");
+            write!(page, "{}", Digits(*b));
         }
         before = now;
     }

@@ -16,7 +16,6 @@ use page::{Number, Page};
 use read_message::Reading;
 use stun_file::Form;
 use stun_io::input::MOST;
-use stun_io::output::Hex;
 use stun_io::status::{Status, Told};
 use stun_io::walk::Attributes;
 use wire::refusal::number_of;
@@ -39,7 +38,8 @@ fn head(page: &mut Page, reading: Reading, total: u64) {
     } else {
         write!(page, "{name}");
     }
-    write!(page, ", ID {}", Hex(&reading.id.bytes));
+    write!(page, ", ID ");
+    page.hex(&reading.id.bytes);
     amount(page, total);
 }
 
@@ -53,7 +53,8 @@ fn attributes(page: &mut Page, d: &[u8], id: TransactionId) {
         values::padding(page, a.padding);
     }
     if let Walk::Cut { at } = walk.here() {
-        write!(page, "\n{at:5}");
+        page.print(b"\n");
+        page.column(at, 5);
         page.bad("  cut off");
     }
 }

@@ -4,38 +4,36 @@ use big_endian::u16_at;
 use net::{Family, SocketAddr};
 use read_typed::Value;
 use registry::{ErrorCode, Rule};
-use std::fmt::{self, Display};
 use stun_io::walk::Attribute;
 use wire::transaction_id::TransactionId;
 
-// A type's name, or its number where it has none, laid first, since `pad` takes one text.
-#[derive(Clone, Copy)]
-struct Kind(u16);
-
-impl Display for Kind {
-    fn fmt<W: fmt::Write>(&self, f: &mut fmt::Formatter<W>) -> fmt::Result {
-        let kind = self.0;
-        let name = names::attribute(kind);
-        if !name.is_empty() {
-            return f.pad(name);
-        }
-        let mut text = [b'0', b'x', 0, 0, 0, 0];
-        hex_text::show(&kind.to_be_bytes(), &mut text[2..]);
-        f.pad(std::str::from_utf8(&text).unwrap_or_default())
+// A type's name, or its number where it has none; answers how many characters that takes.
+fn kind_name(page: &mut Page, kind: u16) -> usize {
+    let name = names::attribute(kind);
+    if name.is_empty() {
+        write!(page, "0x");
+        page.digits(kind.to_be_bytes());
+        return 6;
     }
+    write!(page, "{name}");
+    name.len()
 }
 
 // PLACE NAME SIZE, in columns.
 pub fn row(page: &mut Page, a: Attribute<'_>) {
-    let at = a.at;
-    let size = a.value.len();
-    write!(page, "{at:5}  {:18}{size:6}  ", Kind(a.kind));
+    page.column(a.at, 5);
+    page.print(b"  ");
+    let taken = kind_name(page, a.kind);
+    page.blanks(18usize.saturating_sub(taken));
+    page.column(a.value.len(), 6);
+    page.print(b"  ");
 }
 
 // A quote and a backslash stand behind a backslash.
 fn character(page: &mut Page, before: u8, b: u8, after: u8) {
     if display::escape::is_escaped(before, b, after) {
-        write!(page, "\\x{b:02x}");
+        write!(page, "\\x");
+        page.digits([b]);
         return;
     }
     if matches!(b, b'"' | b'\\') {
@@ -92,7 +90,8 @@ fn address(page: &mut Page, address: SocketAddr) {
         Family::Ipv6 => {
             page.print(b"[");
             ipv6(page, &ip);
-            write!(page, "]:{port}");
+            page.print(b"]");
+            write!(page, ":{port}");
         }
     }
 }
@@ -122,7 +121,7 @@ fn list(page: &mut Page, value: &[u8]) {
         if i != 0 {
             page.print(b", ");
         }
-        write!(page, "{}", Kind(u16_at(pair, 0)));
+        kind_name(page, u16_at(pair, 0));
     }
 }
 
@@ -134,7 +133,8 @@ fn checked_print(page: &mut Page, d: &[u8], a: Attribute<'_>) {
         page.good(", good");
     } else {
         page.bad(", bad");
-        write!(page, ": the bytes before it come to {sum:08x}");
+        write!(page, ": the bytes before it come to ");
+        page.digits(sum.to_be_bytes());
     }
 }
 

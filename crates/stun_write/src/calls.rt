@@ -4,7 +4,7 @@ use crate::fields::Fields;
 use crate::script::LONGEST;
 use net::{Family, SocketAddr};
 use registry::ErrorCode;
-use stun_io::output::{Hex, Output};
+use stun_io::output::{Hex, Output, Signed};
 use stun_io::status::Status;
 use stun_io::words::is_comment;
 use wire::method::Method;
@@ -45,7 +45,7 @@ fn show(out: &mut Output, d: &[u8]) {
 }
 
 fn ok(out: &mut Output, n: usize) {
-    write!(out, "ok {n}\n");
+    write!(out, "ok {}", Signed(n as u64, '\n'));
 }
 
 fn is_pair(family: Family, n: u64, ip: &[u8]) -> bool {
@@ -225,7 +225,7 @@ impl Buffer {
                     Ok(size) => ok(out, size),
                     Err(refusal) => {
                         out.note(Status::Fault);
-                        write!(out, "no {}\n", refusal.number);
+                        write!(out, "no {}", Signed(refusal.number as u64, '\n'));
                     }
                 }
             }
