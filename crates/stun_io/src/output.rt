@@ -4,7 +4,7 @@ ghost use Rattle.std.specs.Prelude.{◌≤◌};
 use crate::complaints::unwritten;
 use crate::status::Status;
 use std::fmt;
-use std::io::{self, Error, Write};
+use std::io::{Error, Result, Write};
 
 const ROOM: usize = 65536;
 
@@ -57,7 +57,7 @@ impl Output {
     }
 
     // Notes a write that failed: after it nothing more is written.
-    fn noted(&mut self, said: io::Result<()>) {
+    fn noted(&mut self, said: Result<()>) {
         if let Err(error) = said {
             self.failure = Some(error.raw_os_error().unwrap_or(0));
         }
@@ -125,17 +125,20 @@ impl fmt::Write for Output {
 
 // A number and the sign behind it, laid as one piece: where the buffer is full, what waits is written before both.
 #[derive(Clone, Copy)]
-pub struct Signed(pub u64, pub char);
+pub struct Signed(pub u64, pub u8);
 
 impl fmt::Display for Signed {
     fn fmt<W: fmt::Write>(&self, f: &mut fmt::Formatter<W>) -> fmt::Result {
         let Signed(n, sign) = *self;
-        let mut text = [0u8; 24];
-        let mut room: &mut [u8] = &mut text;
-        let _ = write!(room, "{n}{sign}");
-        let size = 24usize.saturating_sub(room.len());
-        let digits = text.get(..size).unwrap_or_default();
-        f.write_str(std::str::from_utf8(digits).unwrap_or_default())
+        let mut text = [0u8; 20];
+        let size = io::decimal(n, &mut text);
+        let Some(behind) = text.get_mut(size) else {
+            // twenty digits: the sign goes for itself
+            return write!(f, "{n}{}", char::from(sign));
+        };
+        *behind = sign;
+        let text = text.get(..=size).unwrap_or_default();
+        f.write_str(std::str::from_utf8(text).unwrap_or_default())
     }
 }
 

@@ -26,15 +26,15 @@ fn reading(out: &mut Output, d: &[u8]) {
             return;
         }
     };
-    let class = Signed(reading.class.as_u16() as u64, ' ');
-    let method = Signed(reading.method.as_u16() as u64, ' ');
+    let class = Signed(reading.class.as_u16() as u64, b' ');
+    let method = Signed(reading.method.as_u16() as u64, b' ');
     let id = Hex(&reading.id.bytes);
     match reading.attributes {
         Ok(count) => write!(out, "whole {class}{method}{id} {count}"),
         Err(fault) => write!(
             out,
             "broken {class}{method}{id} {}{}",
-            Signed(fault.reason.number as u64, ' '),
+            Signed(fault.reason.number as u64, b' '),
             fault.place
         ),
     }
@@ -55,12 +55,12 @@ fn walk(out: &mut Output, d: &[u8]) {
         write!(
             out,
             "{}{}:{}{}{}{}",
-            Signed(at as u64, ':'),
+            Signed(at as u64, b':'),
             Hex(&kind.to_be_bytes()),
-            Signed(place as u64, ':'),
-            Signed(value.len() as u64, ':'),
-            Signed(end as u64, ':'),
-            Signed(padding.len() as u64, ' ')
+            Signed(place as u64, b':'),
+            Signed(value.len() as u64, b':'),
+            Signed(end as u64, b':'),
+            Signed(padding.len() as u64, b' ')
         );
     }
     match walk.here() {
@@ -79,8 +79,8 @@ fn said(out: &mut Output, a: Attribute<'_>, id: TransactionId) {
             write!(
                 out,
                 "addr={}{}{}",
-                Signed(family.as_u8() as u64, '='),
-                Signed(port as u64, '='),
+                Signed(family.as_u8() as u64, b'='),
+                Signed(port as u64, b'='),
                 Hex(ip)
             );
         }
@@ -89,8 +89,8 @@ fn said(out: &mut Output, a: Attribute<'_>, id: TransactionId) {
             write!(
                 out,
                 "error={}{}{}",
-                Signed(error.code as u64, '='),
-                Signed(error.reserved as u64, '='),
+                Signed(error.code as u64, b'='),
+                Signed(error.reserved as u64, b'='),
                 Hex(phrase)
             );
         }
@@ -112,7 +112,7 @@ fn values(out: &mut Output, d: &[u8]) {
             write!(
                 out,
                 "{}{}:",
-                Signed(a.at as u64, ':'),
+                Signed(a.at as u64, b':'),
                 Hex(&a.kind.to_be_bytes())
             );
             said(out, a, id);

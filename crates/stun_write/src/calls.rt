@@ -45,7 +45,7 @@ fn show(out: &mut Output, d: &[u8]) {
 }
 
 fn ok(out: &mut Output, n: usize) {
-    write!(out, "ok {}", Signed(n as u64, '\n'));
+    write!(out, "ok {}", Signed(n as u64, b'\n'));
 }
 
 fn is_pair(family: Family, n: u64, ip: &[u8]) -> bool {
@@ -225,7 +225,7 @@ impl Buffer {
                     Ok(size) => ok(out, size),
                     Err(refusal) => {
                         out.note(Status::Fault);
-                        write!(out, "no {}", Signed(refusal.number as u64, '\n'));
+                        write!(out, "no {}", Signed(refusal.number as u64, b'\n'));
                     }
                 }
             }
